@@ -1,0 +1,5 @@
+use Rattle.chain.proofs.Writes.{read}
+use Rattle.chain.proofs.prev_of.Needs as need
+
+pub returns : need.returns
+returns g c = read (g .N·LinkedNode .links .prev-of) _ _ _ _ _ (c .index-nodes-index .is) (c .index .ensures) (c .pre) (c .prev .ensures)

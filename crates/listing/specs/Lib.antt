@@ -1,0 +1,4 @@
+pub mod Lawful
+pub mod Reads
+pub mod Numbers
+pub mod Edits
