@@ -6,6 +6,8 @@ use native.Mathlib.Nat.{le-of-suc-le-suc, not-suc-le-zero}
 use lib.ListN.{length, getD, set}
 use Rattle.std.specs.declared.option.Option.{Option}
 use Rattle.std.specs.declared.option.Option.the-variants.{Some, None}
+use Rattle.chain.specs.declared.Ends.{Ends}
+use Rattle.chain.specs.Links.{Links}
 use Rattle.chain.specs.Table.{alter, alter-at, read-at}
 
 set-is : {N : Type 0} (t : List N) (i : ℕ) (d y : N) (f : N → N) → y ≡ f (getD t i d) → set t i y ≡ alter t i f
@@ -32,3 +34,15 @@ read-is link (n ∷ ns) (suc i) d h = read-is link ns i d (le-of-suc-le-suc h)
 -- what a read of a node's link gives
 pub read : {N K : Type 0} (link : N → Option K) (t : List N) (i j : ℕ) (n : N) (o : Option K) → n ≡ getD t i n → i ≡ j → j < length t → o ≡ link n → o ≡ read-at link t j
 read link t i j n o e h b r = r ∙ ap link e ∙ ap (λ m. link (getD t m n)) h ∙ sym (read-is link t j n b)
+
+-- four links written in turn: both of k, then the next of p and the previous of n
+pub four-writes : {N K : Type 0} (place : K → ℕ) (links : Links N K) (t t1 t2 t3 t4 : List N) (k : K) (p n a b c d : Option K) → t1 ≡ alter-at place t (Some k) (λ m. links .with-prev m a) → t2 ≡ alter-at place t1 (Some k) (λ m. links .with-next m b) → t3 ≡ alter-at place t2 p (λ m. links .with-next m c) → t4 ≡ alter-at place t3 n (λ m. links .with-prev m d) → t4 ≡ alter-at place (alter-at place (alter-at place (alter-at place t (Some k) (λ m. links .with-prev m a)) (Some k) (λ m. links .with-next m b)) p (λ m. links .with-next m c)) n (λ m. links .with-prev m d)
+four-writes place links t t1 t2 t3 t4 k p n a b c d e1 e2 e3 e4 =
+    let f3 = e3 ∙ ap (λ u. alter-at place u p (λ m. links .with-next m c)) (e2 ∙ ap (λ u. alter-at place u (Some k) (λ m. links .with-next m b)) e1) in
+    e4 ∙ ap (λ u. alter-at place u n (λ m. links .with-prev m d)) f3
+
+pub ends-are : {K : Type 0} (a b c d : Option K) → a ≡ c → b ≡ d → _≡_ {A = Ends K} (record { first = a; last = b }) (record { first = c; last = d })
+ends-are {K} a b c d e f = ap (λ o. both o b) e ∙ ap (λ o. both c o) f
+  where
+    both : Option K → Option K → Ends K
+    both x y = record { first = x; last = y }

@@ -8,7 +8,7 @@ ghost use lib.ListN.{length};
 ghost use Rattle.std.specs.declared.option.Option.the-variants.{Some, None};
 ghost use Rattle.chain.specs.Links.{Links};
 ghost use Rattle.chain.specs.Chain.{Inserts, Removes};
-ghost use Rattle.chain.specs.Table.{alter-at, read-at, Within, inserted-table, inserted-ends, removed-table, removed-ends};
+ghost use Rattle.chain.specs.Table.{alter-at, read-at, if-none, Within, inserted-table, inserted-ends, removed-table, removed-ends};
 
 /// The number by which a table names its nodes.
 pub trait Key: Copy {
@@ -165,14 +165,8 @@ fn link_between<N: LinkedNode>(
     link_next(nodes, Some(key), next);
     link_next(nodes, prev, Some(key));
     link_prev(nodes, next, Some(key));
-    let first = match prev {
-        None => Some(key),
-        Some(_) => ends.first,
-    };
-    let last = match next {
-        None => Some(key),
-        Some(_) => ends.last,
-    };
+    let first = at_end(prev, Some(key), ends.first);
+    let last = at_end(next, Some(key), ends.last);
     Ends { first, last }
 }
 
@@ -194,15 +188,19 @@ fn unlink_between<N: LinkedNode>(
     link_next(nodes, Some(key), None);
     link_next(nodes, prev, next);
     link_prev(nodes, next, prev);
-    let first = match prev {
-        None => next,
-        Some(_) => ends.first,
-    };
-    let last = match next {
-        None => prev,
-        Some(_) => ends.last,
-    };
+    let first = at_end(prev, next, ends.first);
+    let last = at_end(next, prev, ends.last);
     Ends { first, last }
+}
+
+// The end of a chain on the side of `neighbour`: `new` where there is none, else the `old` one.
+fn at_end<K: Copy>(neighbour: Option<K>, new: Option<K>, old: Option<K>) -> Option<K>
+    ensures { λ r. ⌜ r ≡ if-none neighbour new old ⌝ }
+{
+    match neighbour {
+        None => new,
+        Some(_) => old,
+    }
 }
 
 // The node at `at`, if there is one, gets `link` to the one ahead of it.

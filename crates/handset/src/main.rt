@@ -4,173 +4,138 @@ use entities::BLOCK_CAPACITY;
 use entities::Block;
 use entities::Inst;
 use entities::progpoint::Order;
-use entities::progpoint::ProgramPoint;
 use entities::progpoint::ProgramPointFromInst;
-use faults::Entity;
-use faults::EntityDisplay;
 use faults::LayoutFault;
 use faults::LayoutFaultDisplay;
 use layout::Layout;
 use std::fmt;
+use std::fmt::Display;
 use std::io;
 use walks::BlocksIterator;
 use walks::InstsDoubleEndedIterator;
 use walks::InstsIterator;
 
 // The blocks of the example's dispatch program, by number and name.
-const BLOCKS: [(u32, &str); 3] = [(0, "morning peak"), (4, "hall calls"), (2, "parking")];
+const BLOCKS: [(u32, &str); 3] = [
+    (0, "block 0, morning peak"),
+    (4, "block 4, hall calls"),
+    (2, "block 2, parking"),
+];
 
 // Its instructions, in the order in which the mechanic appends them: number, block and what it does.
 const INSTS: [(u32, u32, &str); 7] = [
-    (7, 0, "send car A to the lobby"),
-    (0, 0, "hold its doors for 8 seconds"),
-    (9, 4, "car B answers landing 5"),
-    (3, 4, "car A answers landing 5"),
-    (12, 4, "car C stays where it is"),
-    (5, 2, "park car A at landing 0"),
-    (1, 2, "park car B at landing 8"),
+    (7, 0, "instruction 7, send car A to the lobby"),
+    (0, 0, "instruction 0, hold its doors for 8 seconds"),
+    (9, 4, "instruction 9, car B answers landing 5"),
+    (3, 4, "instruction 3, car A answers landing 5"),
+    (12, 4, "instruction 12, car C stays where it is"),
+    (5, 2, "instruction 5, park car A at landing 0"),
+    (1, 2, "instruction 1, park car B at landing 8"),
 ];
 
 // Entries that the layout has to refuse: a block that is in already, and one past its range.
-const REFUSED: [(u32, &str); 2] = [
-    (4, "hall calls, a second time"),
-    (256, "a block numbered past the highest, 255"),
+const SLIPS: [(u32, &str); 2] = [
+    (4, "block 4, entered a second time"),
+    (256, "block 256, past the highest, 255"),
 ];
 
-// What a call answered, for a person.
+// What was entered, and what the layout answered.
 #[derive(Drop)]
-struct Answer(Result<u32, LayoutFault>);
+struct Entered(&'static str, Result<u32, LayoutFault>);
 
-impl fmt::Display for Answer as AnswerDisplay {
+impl Display for Entered as EnteredDisplay {
     fn fmt<W: fmt::Write>(&self, f: &mut fmt::Formatter<W>) -> fmt::Result {
-        match self.0 {
-            Ok(writes) => write!(f, "accepted, sequence numbers written: {writes}"),
-            Err(fault) => write!(f, "{fault}"),
-        }
-    }
-}
-
-// A block with its name.
-#[derive(Drop)]
-struct NamedBlock(Block);
-
-impl fmt::Display for NamedBlock as NamedBlockDisplay {
-    fn fmt<W: fmt::Write>(&self, f: &mut fmt::Formatter<W>) -> fmt::Result {
-        let entity = Entity::Block(self.0);
-        write!(f, "{entity}")?;
-        for (number, name) in BLOCKS {
-            if number == self.0.as_u32() {
-                write!(f, " ({name})")?;
-            }
-        }
-        Ok(())
-    }
-}
-
-// An instruction with what it does.
-#[derive(Drop)]
-struct NamedInst(Inst);
-
-impl fmt::Display for NamedInst as NamedInstDisplay {
-    fn fmt<W: fmt::Write>(&self, f: &mut fmt::Formatter<W>) -> fmt::Result {
-        let entity = Entity::Inst(self.0);
-        write!(f, "{entity}")?;
-        for (number, _, name) in INSTS {
-            if number == self.0.as_u32() {
-                write!(f, " ({name})")?;
-            }
-        }
-        Ok(())
-    }
-}
-
-// An instruction on a line of its own, behind its sequence number.
-#[derive(Drop)]
-struct Numbered(Inst, Option<u32>);
-
-impl fmt::Display for Numbered as NumberedDisplay {
-    fn fmt<W: fmt::Write>(&self, f: &mut fmt::Formatter<W>) -> fmt::Result {
-        let inst = NamedInst(self.0);
+        let what = self.0;
         match self.1 {
-            Some(seq) => write!(f, "  {seq:>4}  {inst}"),
-            None => write!(f, "     -  {inst}"),
+            Ok(writes) => write!(f, "  {what}: accepted, sequence numbers written: {writes}"),
+            Err(fault) => write!(f, "  {what}: {fault}"),
         }
     }
 }
 
 // Which of two tied cars goes, by the order of their instructions.
 #[derive(Drop)]
-struct Tie(Inst, Inst, Result<Order, LayoutFault>);
+struct Tie(Result<Order, LayoutFault>);
 
-impl fmt::Display for Tie as TieDisplay {
+impl Display for Tie as TieDisplay {
     fn fmt<W: fmt::Write>(&self, f: &mut fmt::Formatter<W>) -> fmt::Result {
-        let a = NamedInst(self.0);
-        let b = NamedInst(self.1);
-        match self.2 {
-            Ok(Order::Less) => write!(f, "{a} comes first: car A goes"),
-            Ok(Order::Greater) => write!(f, "{b} comes first: car B goes"),
-            Ok(Order::Equal) => write!(f, "{a} is both: no car goes"),
-            Err(fault) => write!(f, "{fault}"),
+        match self.0 {
+            Ok(Order::Less) => f.write_str("  car A's: car A goes, in both controllers"),
+            Ok(Order::Greater) => f.write_str("  car B's: car B goes, in both controllers"),
+            Ok(Order::Equal) => f.write_str("  it is the same one"),
+            Err(fault) => fault.fmt(f),
         }
+    }
+}
+
+// An instruction of the program, behind its sequence number.
+#[derive(Drop)]
+struct Numbered(Option<u32>, Inst);
+
+impl Display for Numbered as NumberedDisplay {
+    fn fmt<W: fmt::Write>(&self, f: &mut fmt::Formatter<W>) -> fmt::Result {
+        let seq = self.0.unwrap_or(0);
+        for (number, _, what) in INSTS {
+            if number == self.1.as_u32() {
+                return write!(f, "  {seq:>4}  {what}");
+            }
+        }
+        Ok(())
+    }
+}
+
+// A block of the program.
+#[derive(Drop)]
+struct Named(Block);
+
+impl Display for Named as NamedDisplay {
+    fn fmt<W: fmt::Write>(&self, f: &mut fmt::Formatter<W>) -> fmt::Result {
+        for (number, what) in BLOCKS {
+            if number == self.0.as_u32() {
+                return f.write_str(what);
+            }
+        }
+        Ok(())
     }
 }
 
 fn main(rt: LibcRuntime) -> io::Result<()> {
     let mut layout = Layout::new();
-    println!(rt, "A dispatch program is entered on the handset.")?;
-    println!(rt, "\nIts blocks, in order:")?;
-    for (number, name) in BLOCKS {
-        let answer = Answer(layout.append_block(Block::from_u32(number)));
-        println!(rt, "  enter block {number}, {name}: {answer}")?;
+    rt.println("A dispatch program is entered on the handset.\n\nIts blocks, in order:")?;
+    for (number, what) in BLOCKS {
+        rt.println(Entered(what, layout.append_block(Block::from_u32(number))))?;
     }
-    println!(rt, "\nIts instructions, each at the end of its block:")?;
-    for (number, block, name) in INSTS {
+    rt.println("\nIts instructions, each appended to its block:")?;
+    for (number, block, what) in INSTS {
         let inst = Inst::from_u32(number);
-        let answer = Answer(layout.append_inst(inst, Block::from_u32(block)));
-        println!(
-            rt,
-            "  append instruction {number}, {name}, to block {block}: {answer}"
-        )?;
+        rt.println(Entered(what, layout.append_inst(inst, Block::from_u32(block))))?;
     }
-    println!(rt, "\nTwo slips, which change nothing:")?;
-    for (number, what) in REFUSED {
-        let answer = Answer(layout.append_block(Block::from_u32(number)));
-        println!(rt, "  enter block {number}, {what}: {answer}")?;
+    rt.println("\nTwo slips, which change nothing:")?;
+    for (number, what) in SLIPS {
+        rt.println(Entered(what, layout.append_block(Block::from_u32(number))))?;
     }
-    println!(
-        rt,
-        "\nCars A and B are equally near landing 5. Whose instruction comes first?"
-    )?;
+    rt.println("\nCars A and B are equally near landing 5. Whose instruction comes first?")?;
     let car_a = Inst::from_u32(3);
     let car_b = Inst::from_u32(9);
-    let tie = Tie(car_a, car_b, layout.pp_cmp(car_a.into(), car_b.into()));
-    println!(rt, "  {tie}")?;
-    println!(
-        rt,
-        "\nThe program forward, each instruction behind its sequence number:"
-    )?;
+    rt.println(Tie(layout.pp_cmp(car_a.into(), car_b.into())))?;
+    rt.println("\nThe program forward, each instruction behind its sequence number:")?;
     for block in layout.blocks() {
-        let name = NamedBlock(block);
-        println!(rt, "{name}")?;
+        rt.println(Named(block))?;
         for inst in layout.block_insts(block) {
-            let line = Numbered(inst, layout.inst_seq(inst));
-            println!(rt, "{line}")?;
+            rt.println(Numbered(layout.inst_seq(inst), inst))?;
         }
     }
-    println!(rt, "\nThe program backward:")?;
+    rt.println("\nThe program backward:")?;
     let mut at = layout.last_block();
     for _ in 0..BLOCK_CAPACITY {
         let Some(block) = at else {
             break;
         };
-        let name = NamedBlock(block);
-        println!(rt, "{name}")?;
+        rt.println(Named(block))?;
         for inst in layout.block_insts(block).rev() {
-            let line = Numbered(inst, layout.inst_seq(inst));
-            println!(rt, "{line}")?;
+            rt.println(Numbered(layout.inst_seq(inst), inst))?;
         }
         at = layout.prev_block(block);
     }
-    let writes = layout.clear();
-    println!(rt, "\nCleared, sequence numbers written: {writes}")
+    rt.println(Entered("all taken out", Ok(layout.clear())))
 }

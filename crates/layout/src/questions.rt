@@ -32,42 +32,42 @@ impl Layout {
     pub fn is_block_inserted(&self, block: Block) -> bool
         ensures { λ r. ⌜ r ≡ inserted-block block (program (now (self .entry))) ⌝ }
     {
-        tables::is_block_inserted(&self.tables, block)
+        reads::is_block_inserted(&self.tables, block)
     }
 
     /// The first block.
     pub fn entry_block(&self) -> Option<Block>
         ensures { λ r. ⌜ r ≡ entry-block (program (now (self .entry))) ⌝ }
     {
-        tables::block_ends(&self.tables).first
+        reads::block_ends(&self.tables).first
     }
 
     /// The last block.
     pub fn last_block(&self) -> Option<Block>
         ensures { λ r. ⌜ r ≡ last-block (program (now (self .entry))) ⌝ }
     {
-        tables::block_ends(&self.tables).last
+        reads::block_ends(&self.tables).last
     }
 
     /// The block directly ahead of `block`.
     pub fn prev_block(&self, block: Block) -> Option<Block>
         ensures { λ r. ⌜ r ≡ prev-block block (program (now (self .entry))) ⌝ }
     {
-        tables::block_node(&self.tables, block).prev
+        reads::block_node(&self.tables, block).prev
     }
 
     /// The block directly behind `block`.
     pub fn next_block(&self, block: Block) -> Option<Block>
         ensures { λ r. ⌜ r ≡ next-block block (program (now (self .entry))) ⌝ }
     {
-        tables::block_node(&self.tables, block).next
+        reads::block_node(&self.tables, block).next
     }
 
     /// Is `block` marked cold?
     pub fn is_cold(&self, block: Block) -> bool
         ensures { λ r. ⌜ r ≡ is-cold block (program (now (self .entry))) ⌝ }
     {
-        tables::block_node(&self.tables, block).cold
+        reads::block_node(&self.tables, block).cold
     }
 
     /// The block in which `inst` stands; none where it is not inserted.
@@ -75,42 +75,42 @@ impl Layout {
         ensures block { λ r. ⌜ r ≡ inst-block inst (program (now (self .entry))) ⌝ }
         ensures inserted { λ r. ⌜ isSome r ≡ inserted-inst inst (program (now (self .entry))) ⌝ }
     {
-        tables::inst_node(&self.tables, inst).block
+        reads::inst_node(&self.tables, inst).block
     }
 
     /// The first instruction of `block`.
     pub fn first_inst(&self, block: Block) -> Option<Inst>
         ensures { λ r. ⌜ r ≡ first-inst block (program (now (self .entry))) ⌝ }
     {
-        tables::block_node(&self.tables, block).first_inst
+        reads::block_node(&self.tables, block).first_inst
     }
 
     /// The last instruction of `block`.
     pub fn last_inst(&self, block: Block) -> Option<Inst>
         ensures { λ r. ⌜ r ≡ last-inst block (program (now (self .entry))) ⌝ }
     {
-        tables::block_node(&self.tables, block).last_inst
+        reads::block_node(&self.tables, block).last_inst
     }
 
     /// The instruction directly behind `inst` in its block.
     pub fn next_inst(&self, inst: Inst) -> Option<Inst>
         ensures { λ r. ⌜ r ≡ next-inst inst (program (now (self .entry))) ⌝ }
     {
-        tables::inst_node(&self.tables, inst).next
+        reads::inst_node(&self.tables, inst).next
     }
 
     /// The instruction directly ahead of `inst` in its block.
     pub fn prev_inst(&self, inst: Inst) -> Option<Inst>
         ensures { λ r. ⌜ r ≡ prev-inst inst (program (now (self .entry))) ⌝ }
     {
-        tables::inst_node(&self.tables, inst).prev
+        reads::inst_node(&self.tables, inst).prev
     }
 
     /// Has `block` one instruction and no more?
     pub fn block_contains_exactly_one_inst(&self, block: Block) -> bool
         ensures { λ r. ⌜ r ≡ exactly-one (slots-of block (program (now (self .entry)))) ⌝ }
     {
-        let node = tables::block_node(&self.tables, block);
+        let node = reads::block_node(&self.tables, block);
         node.first_inst.is_some() && node.first_inst == node.last_inst
     }
 
@@ -118,7 +118,7 @@ impl Layout {
     pub fn inst_seq(&self, inst: Inst) -> Option<SequenceNumber>
         ensures { λ r. ⌜ r ≡ shown-seq inst (program (now (self .entry))) ⌝ }
     {
-        let node = tables::inst_node(&self.tables, inst);
+        let node = reads::inst_node(&self.tables, inst);
         if node.block.is_some() {
             Some(node.seq)
         } else {
@@ -130,7 +130,7 @@ impl Layout {
     pub fn pp_block(&self, pp: ProgramPoint) -> Result<Block, LayoutFault>
         ensures { λ r. ⌜ told-found r ≡ pp-block-rule pp (program (now (self .entry))) ⌝ }
     {
-        asked::pp_block(&self.tables, pp)
+        points::pp_block(&self.tables, pp)
     }
 
     /// Which of two points of one block comes first?
@@ -138,7 +138,7 @@ impl Layout {
         ensures numbers { λ r. ⌜ told r ≡ pp-cmp-rule a b (program (now (self .entry))) ⌝ }
         ensures walk { λ r. ⌜ IfAccepted r (Ranked (program (now (self .entry))) a b) ⌝ }
     {
-        asked::pp_cmp(&self.tables, a, b)
+        points::pp_cmp(&self.tables, a, b)
     }
 
     /// A walk over all blocks, in order. It borrows the layout: no edit while it is in use.

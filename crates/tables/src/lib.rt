@@ -1,4 +1,4 @@
-//! The reads and edits of the two node tables, each by what it says of, or does to, the program that the tables hold.
+//! The edits of the two node tables, each by what it does to the program that the tables hold.
 //!
 //! The public functions ask for sound tables; those of a layout always are.
 
@@ -6,23 +6,21 @@ ghost use mathlib.Core.Path.{_≡_};
 ghost use mathlib.Core.Bool.{true, false};
 ghost use mathlib.Core.List.{[]};
 ghost use Prim.Native.Nat.{_<_};
-ghost use lib.ListN.{length, getD, set, replicate};
+ghost use lib.ListN.{length, set, replicate};
 ghost use Rattle.std.specs.declared.option.Option.the-variants.{Some};
 ghost use Rattle.chain.specs.Table.{alter};
 ghost use Rattle.entities.specs.declared.nodes.Tables.{Tables as TablesOf};
-ghost use Rattle.entities.specs.Nodes.{ends-of, no-block, no-inst, only-mark};
+ghost use Rattle.entities.specs.Nodes.{ends-of, only-mark};
 ghost use Rattle.entities.specs.Program.{append-block, with-lines, mark-cold, no-program};
-ghost use Rattle.entities.specs.Reading.{inserted-block, inserted-inst, entry-block, last-block};
+ghost use Rattle.entities.specs.Reading.{inserted-block, inserted-inst};
 ghost use Rattle.listing.specs.Lawful.{Sound, program-of};
 ghost use Rattle.listing.specs.Edits.{with-inst-ends, with-block};
-ghost use Rattle.listing.specs.Reads.{OfBlock, OfInst};
 ghost use Rattle.tables.specs.Appended.{Appended, LinkedFrom, SomeLinked};
 use chain::Ends;
 use chain::Key;
 use entities::BLOCK_CAPACITY;
 use entities::Block;
 use entities::BlockKey;
-use entities::BlockPartialEq;
 use entities::INST_CAPACITY;
 use entities::Inst;
 use entities::InstKey;
@@ -56,41 +54,6 @@ pub fn clear(tables: &mut Tables)
     ensures program { λ _. ⌜ program-of (now (tables .exit)) ≡ no-program ⌝ }
 {
     unlink_all(tables, BlockNode::EMPTY);
-}
-
-/// The node of `block`; an empty one for a number outside the table.
-pub fn block_node(tables: &Tables, block: Block) -> BlockNode
-    requires { ⌜ Sound (now tables) ⌝ }
-    ensures { λ r. ⌜ OfBlock (program-of (now (tables .entry))) block r ⌝ }
-{
-    let node = node_or(&tables.blocks, block.index(), BlockNode::EMPTY);
-    of_block(tables, block, node)
-}
-
-/// The node of `inst`; an empty one for a number outside the table.
-pub fn inst_node(tables: &Tables, inst: Inst) -> InstNode
-    requires { ⌜ Sound (now tables) ⌝ }
-    ensures { λ r. ⌜ OfInst (program-of (now (tables .entry))) inst r ⌝ }
-{
-    let node = node_or(&tables.insts, inst.index(), InstNode::EMPTY);
-    of_inst(tables, inst, node)
-}
-
-/// The first and the last block.
-pub fn block_ends(tables: &Tables) -> Ends<Block>
-    requires { ⌜ Sound (now tables) ⌝ }
-    ensures { λ r. ⌜ r ≡ record { first = entry-block (program-of (now (tables .entry))); last = last-block (program-of (now (tables .entry))) } ⌝ }
-{
-    of_ends(tables, tables.ends)
-}
-
-/// Is `block` inserted? Then it is the first block, or has another ahead of it.
-pub fn is_block_inserted(tables: &Tables, block: Block) -> bool
-    requires { ⌜ Sound (now tables) ⌝ }
-    ensures { λ r. ⌜ r ≡ inserted-block block (program-of (now (tables .entry))) ⌝ }
-{
-    let node = block_node(tables, block);
-    block_ends(tables).first == Some(block) || node.prev.is_some()
 }
 
 /// Puts `block` at the end of the chain of blocks.
@@ -150,40 +113,6 @@ fn unlink_all(tables: &mut Tables, block: BlockNode)
     tables.blocks.fill(block);
     tables.insts.fill(InstNode::EMPTY);
     tables.ends = NO_ENDS;
-}
-
-// The node at a place, or `empty` past the table.
-fn node_or<N: Copy>(nodes: &[N], at: usize, empty: N) -> N
-    ensures { λ r. ⌜ r ≡ getD (now (nodes .entry)) at empty ⌝ }
-{
-    if at < nodes.len() { nodes[at] } else { empty }
-}
-
-// `node`, by what it says of the program: it was read at the place of `block`.
-fn of_block(tables: &Tables, block: Block, node: BlockNode) -> BlockNode
-    requires sound { ⌜ Sound (now tables) ⌝ }
-    requires read { ⌜ node ≡ getD (now tables .blocks) (block .0) no-block ⌝ }
-    ensures { λ r. ⌜ OfBlock (program-of (now (tables .entry))) block r ⌝ }
-{
-    node
-}
-
-// `node`, by what it says of the program: it was read at the place of `inst`.
-fn of_inst(tables: &Tables, inst: Inst, node: InstNode) -> InstNode
-    requires sound { ⌜ Sound (now tables) ⌝ }
-    requires read { ⌜ node ≡ getD (now tables .insts) (inst .0) no-inst ⌝ }
-    ensures { λ r. ⌜ OfInst (program-of (now (tables .entry))) inst r ⌝ }
-{
-    node
-}
-
-// The tables' ends, by what they say of the program.
-fn of_ends(tables: &Tables, ends: Ends<Block>) -> Ends<Block>
-    requires sound { ⌜ Sound (now tables) ⌝ }
-    requires read { ⌜ ends ≡ now tables .ends ⌝ }
-    ensures { λ r. ⌜ r ≡ record { first = entry-block (program-of (now (tables .entry))); last = last-block (program-of (now (tables .entry))) } ⌝ }
-{
-    ends
 }
 
 // Links `block` in behind the last of `ends`, the ends of the chain of blocks.

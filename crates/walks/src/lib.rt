@@ -60,7 +60,7 @@ impl<'f> Blocks<'f> {
         ensures tables { λ r. ⌜ held (r .tables) ≡ now (tables .entry) ⌝ }
         ensures all { λ r. ⌜ blocks-left (held (r .tables)) (r .next) ≡ blocks-of (program-of (now (tables .entry)) .lines) ⌝ }
     {
-        Blocks::starting(tables, tables::block_ends(tables).first)
+        Blocks::starting(tables, reads::block_ends(tables).first)
     }
 
     /// The next block, or none once all were given.
@@ -102,7 +102,7 @@ impl<'f> Insts<'f> {
         ensures tables { λ r. ⌜ held (r .tables) ≡ now (tables .entry) ⌝ }
         ensures all { λ r. ⌜ insts-left (held (r .tables)) (r .block) (r .head) (r .tail) ≡ block-insts block (program-of (now (tables .entry))) ⌝ }
     {
-        let node = tables::block_node(tables, block);
+        let node = reads::block_node(tables, block);
         Insts::spanning(tables, block, node.first_inst, node.last_inst)
     }
 
@@ -138,7 +138,7 @@ fn block_behind(tables: &Tables, block: Block) -> Option<Block>
     ensures on { λ r. ⌜ on-blocks (now (tables .entry)) r ≡ true ⌝ }
     ensures left { λ r. ⌜ blocks-left (now (tables .entry)) (Some block) ≡ block ∷ blocks-left (now (tables .entry)) r ⌝ }
 {
-    tables::block_node(tables, block).next
+    reads::block_node(tables, block).next
 }
 
 // What is left of a walk from `head` to `tail` once `head` was given.
@@ -155,7 +155,7 @@ fn past_front(tables: &Tables, block: Block, head: Inst, tail: Option<Inst>) -> 
         };
     }
     Ends {
-        first: tables::inst_node(tables, head).next,
+        first: reads::inst_node(tables, head).next,
         last: tail,
     }
 }
@@ -175,7 +175,7 @@ fn past_back(tables: &Tables, block: Block, head: Option<Inst>, tail: Inst) -> E
     }
     Ends {
         first: head,
-        last: tables::inst_node(tables, tail).prev,
+        last: reads::inst_node(tables, tail).prev,
     }
 }
 

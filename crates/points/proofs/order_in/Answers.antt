@@ -4,7 +4,7 @@ use Rattle.entities.specs.Points.{compared}
 use Rattle.entities.specs.Reading.{point-seq, Ranked}
 use Rattle.listing.specs.Lawful.{program-of}
 use Rattle.listing.proofs.Ranks.{ranked, point-inserted}
-use Rattle.asked.proofs.order_in.Needs as need
+use Rattle.points.proofs.order_in.Needs as need
 
 pub point-seq-requires : need.point-seq-requires
 point-seq-requires c κs = let t = c .args .tables .now in record { sound = c .pre .sound; inserted = point-inserted t (c .pre .sound) (c .args .a) (c .args .block) (c .pre .a) }
