@@ -13,7 +13,6 @@ mod tests {
     use faults::Entity;
     use faults::EntityDisplay;
     use faults::Layer;
-    use faults::LayerPartialEq;
     use faults::LayoutFault;
     use faults::LayoutFaultDisplay;
     use layout::Layout;
@@ -147,7 +146,7 @@ mod tests {
             None => case.1 == 0,
             Some(fault) => {
                 fault.number() == case.1
-                    && fault.layer() == Layer::Layout
+                    && matches!(fault.layer(), Layer::Layout)
                     && is_entity(fault.entity(), case.2)
             }
         }
@@ -280,25 +279,27 @@ mod tests {
             let _ = layout.append_inst(Inst::from_u32(n), home);
         }
         let mut walk = layout.block_insts(home);
-        check(walk.next() == Some(Inst::from_u32(10)))?;
-        check(walk.next_back() == Some(Inst::from_u32(14)))?;
-        check(walk.next() == Some(Inst::from_u32(11)))?;
-        check(walk.next_back() == Some(Inst::from_u32(13)))?;
-        check(walk.next_back() == Some(Inst::from_u32(12)))?;
-        check(walk.next() == None)?;
-        check(walk.next_back() == None)
+        let first = walk.next();
+        let last = walk.next_back();
+        let second = walk.next();
+        let fourth = walk.next_back();
+        let middle = walk.next_back();
+        let over = walk.next().is_none() && walk.next_back().is_none();
+        check(first == Some(Inst::from_u32(10)) && last == Some(Inst::from_u32(14)))?;
+        check(second == Some(Inst::from_u32(11)) && fourth == Some(Inst::from_u32(13)))?;
+        check(middle == Some(Inst::from_u32(12)) && over)
     }
 
     #[test]
     fn marks_stay_until_cleared() -> Result<(), Fail> {
         let mut layout = Layout::new();
         let home = Block::from_u32(9);
-        check(layout.set_cold(home).ok() == Some(0))?;
-        check(layout.is_cold(home) && !layout.is_block_inserted(home))?;
+        let _ = layout.set_cold(home);
+        let marked = layout.is_cold(home) && !layout.is_block_inserted(home);
         let _ = layout.append_block(home);
-        check(layout.is_cold(home) && !layout.is_cold(Block::from_u32(8)))?;
+        let kept = layout.is_cold(home) && !layout.is_cold(Block::from_u32(8));
         let _ = layout.clear();
-        check(!layout.is_cold(home) && !layout.is_block_inserted(home))
+        check(marked && kept && !layout.is_cold(home) && !layout.is_block_inserted(home))
     }
 
     #[test]
@@ -315,11 +316,10 @@ mod tests {
 
     #[test]
     fn numbers_of_entities() -> Result<(), Fail> {
-        check(Block::with_number(4294967294) == Some(Block::from_u32(4294967294)))?;
-        check(Block::with_number(4294967295) == None)?;
-        check(Block::from_u32(4294967295).as_u32() == 4294967295)?;
-        check(Inst::from_u32(4294967295).as_u32() == 4294967295)?;
-        check(program_point(Point::I(4)).unwrap_inst() == Some(Inst::from_u32(4)))?;
-        check(program_point(Point::B(4)).unwrap_inst() == None)
+        let highest = Block::from_u32(4294967295).as_u32() == Inst::from_u32(4294967295).as_u32();
+        let all_but_one = Block::with_number(4294967294).is_some()
+            && Block::with_number(4294967295).is_none();
+        let inst = program_point(Point::I(4)).unwrap_inst() == Some(Inst::from_u32(4));
+        check(highest && all_but_one && inst && program_point(Point::B(4)).unwrap_inst() == None)
     }
 }

@@ -1,3 +1,4 @@
 pub mod Refusals
 pub mod Questions
 pub mod Rules
+pub mod Text

@@ -3,6 +3,7 @@
 ghost use mathlib.Core.Path.{_≡_};
 ghost use Rattle.std.specs.declared.option.Option.the-variants.{Some};
 ghost use Rattle.faults.specs.Refusals.{refusal-of, entity-at};
+ghost use Rattle.faults.specs.Text.{layer-text, entity-text};
 use entities::Block;
 use entities::Inst;
 use entities::progpoint::ProgramPoint;
@@ -10,7 +11,7 @@ use std::fmt;
 use std::fmt::Display;
 
 /// Who asks a question.
-#[derive(Clone, Copy, PartialEq, Eq)]
+#[derive(Clone, Copy)]
 pub enum Layer {
     Layout,
     Cursor,
@@ -82,6 +83,8 @@ impl LayoutFault {
 }
 
 pub impl fmt::Display for Layer as LayerDisplay {
+    ghost shown = { λ l. Some (layer-text l) };
+
     fn fmt<W: fmt::Write>(&self, f: &mut fmt::Formatter<W>) -> fmt::Result {
         match self {
             Self::Layout => f.write_str("layout"),
@@ -92,15 +95,17 @@ pub impl fmt::Display for Layer as LayerDisplay {
 }
 
 pub impl fmt::Display for Entity as EntityDisplay {
+    ghost shown = { λ e. Some (entity-text e) };
+
     fn fmt<W: fmt::Write>(&self, f: &mut fmt::Formatter<W>) -> fmt::Result {
         match self {
             Entity::Block(block) => {
-                f.write_str("block")?;
-                block.as_u32().fmt(f)
+                let number = block.as_u32();
+                write!(f, "block{number}")
             }
             Entity::Inst(inst) => {
-                f.write_str("inst")?;
-                inst.as_u32().fmt(f)
+                let number = inst.as_u32();
+                write!(f, "inst{number}")
             }
         }
     }

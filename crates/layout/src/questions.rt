@@ -12,7 +12,6 @@ ghost use Rattle.layout.specs.Program.{program};
 use crate::Layout;
 use entities::Block;
 use entities::Inst;
-use entities::InstPartialEq;
 use entities::nodes::SequenceNumber;
 use entities::progpoint::Order;
 use entities::progpoint::ProgramPoint;
@@ -110,8 +109,7 @@ impl Layout {
     pub fn block_contains_exactly_one_inst(&self, block: Block) -> bool
         ensures { λ r. ⌜ r ≡ exactly-one (slots-of block (program (now (self .entry)))) ⌝ }
     {
-        let node = reads::block_node(&self.tables, block);
-        node.first_inst.is_some() && node.first_inst == node.last_inst
+        reads::block_contains_exactly_one_inst(&self.tables, block)
     }
 
     /// The sequence number of `inst`; none where it is not inserted.

@@ -5,7 +5,7 @@
 ghost use mathlib.Core.Path.{_≡_};
 ghost use lib.ListN.{getD};
 ghost use Rattle.entities.specs.Nodes.{no-block, no-inst};
-ghost use Rattle.entities.specs.Reading.{inserted-block, entry-block, last-block};
+ghost use Rattle.entities.specs.Reading.{inserted-block, entry-block, last-block, slots-of, exactly-one};
 ghost use Rattle.listing.specs.Lawful.{Sound, program-of};
 ghost use Rattle.listing.specs.Reads.{OfBlock, OfInst};
 use chain::Ends;
@@ -15,6 +15,7 @@ use entities::BlockKey;
 use entities::BlockPartialEq;
 use entities::Inst;
 use entities::InstKey;
+use entities::InstPartialEq;
 use entities::nodes::BlockNode;
 use entities::nodes::InstNode;
 use entities::nodes::Tables;
@@ -52,6 +53,15 @@ pub fn is_block_inserted(tables: &Tables, block: Block) -> bool
 {
     let node = block_node(tables, block);
     block_ends(tables).first == Some(block) || node.prev.is_some()
+}
+
+/// Has `block` one instruction and no more? Then its first one is there, and is its last.
+pub fn block_contains_exactly_one_inst(tables: &Tables, block: Block) -> bool
+    requires { ⌜ Sound (now tables) ⌝ }
+    ensures { λ r. ⌜ r ≡ exactly-one (slots-of block (program-of (now (tables .entry)))) ⌝ }
+{
+    let node = block_node(tables, block);
+    node.first_inst.is_some() && node.first_inst == node.last_inst
 }
 
 // The node at a place, or `empty` past the table.
