@@ -60,8 +60,8 @@ struct Tie(Result<Order, LayoutFault>);
 impl Display for Tie as TieDisplay {
     fn fmt<W: fmt::Write>(&self, f: &mut fmt::Formatter<W>) -> fmt::Result {
         match self.0 {
-            Ok(Order::Less) => f.write_str("  car A's: car A goes, in both controllers"),
-            Ok(Order::Greater) => f.write_str("  car B's: car B goes, in both controllers"),
+            Ok(Order::Less) => f.write_str("  car A's instruction: car A goes"),
+            Ok(Order::Greater) => f.write_str("  car B's instruction: car B goes"),
             Ok(Order::Equal) => f.write_str("  it is the same one"),
             Err(fault) => fault.fmt(f),
         }
@@ -77,7 +77,7 @@ impl Display for Numbered as NumberedDisplay {
         let seq = self.0.unwrap_or(0);
         for (number, _, what) in INSTS {
             if number == self.1.as_u32() {
-                return write!(f, "  {seq:>4}  {what}");
+                return write!(f, "  {seq:>4}  {what}\n");
             }
         }
         Ok(())
@@ -92,8 +92,45 @@ impl Display for Named as NamedDisplay {
     fn fmt<W: fmt::Write>(&self, f: &mut fmt::Formatter<W>) -> fmt::Result {
         for (number, what) in BLOCKS {
             if number == self.0.as_u32() {
-                return f.write_str(what);
+                return write!(f, "{what}\n");
             }
+        }
+        Ok(())
+    }
+}
+
+// The whole program, block by block, first to last.
+#[derive(Drop)]
+struct Forward<'a>(&'a Layout);
+
+impl Display for Forward<'_> as ForwardDisplay {
+    fn fmt<W: fmt::Write>(&self, f: &mut fmt::Formatter<W>) -> fmt::Result {
+        for block in self.0.blocks() {
+            Named(block).fmt(f)?;
+            for inst in self.0.block_insts(block) {
+                Numbered(self.0.inst_seq(inst), inst).fmt(f)?;
+            }
+        }
+        Ok(())
+    }
+}
+
+// The whole program, last to first.
+#[derive(Drop)]
+struct Backward<'a>(&'a Layout);
+
+impl Display for Backward<'_> as BackwardDisplay {
+    fn fmt<W: fmt::Write>(&self, f: &mut fmt::Formatter<W>) -> fmt::Result {
+        let mut at = self.0.last_block();
+        for _ in 0..BLOCK_CAPACITY {
+            let Some(block) = at else {
+                break;
+            };
+            Named(block).fmt(f)?;
+            for inst in self.0.block_insts(block).rev() {
+                Numbered(self.0.inst_seq(inst), inst).fmt(f)?;
+            }
+            at = self.0.prev_block(block);
         }
         Ok(())
     }
@@ -119,23 +156,8 @@ fn main(rt: LibcRuntime) -> io::Result<()> {
     let car_b = Inst::from_u32(9);
     rt.println(Tie(layout.pp_cmp(car_a.into(), car_b.into())))?;
     rt.println("\nThe program forward, each instruction behind its sequence number:")?;
-    for block in layout.blocks() {
-        rt.println(Named(block))?;
-        for inst in layout.block_insts(block) {
-            rt.println(Numbered(layout.inst_seq(inst), inst))?;
-        }
-    }
-    rt.println("\nThe program backward:")?;
-    let mut at = layout.last_block();
-    for _ in 0..BLOCK_CAPACITY {
-        let Some(block) = at else {
-            break;
-        };
-        rt.println(Named(block))?;
-        for inst in layout.block_insts(block).rev() {
-            rt.println(Numbered(layout.inst_seq(inst), inst))?;
-        }
-        at = layout.prev_block(block);
-    }
+    rt.println(Forward(&layout))?;
+    rt.println("The program backward:")?;
+    rt.println(Backward(&layout))?;
     rt.println(Entered("all taken out", Ok(layout.clear())))
 }

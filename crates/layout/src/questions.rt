@@ -1,23 +1,13 @@
 //! Questions. Any number is answered: one out of range counts as never inserted nor marked, but where range is asked.
 
 ghost use mathlib.Core.Path.{_≡_};
-ghost use denote.Ref.{now as held};
 ghost use Rattle.std.specs.Options.{isSome};
-ghost use Rattle.entities.specs.Program.{blocks-of};
-ghost use Rattle.entities.specs.Reading.{inserted-block, inserted-inst, entry-block, last-block, prev-block, next-block, is-cold, slots-of, block-insts, first-inst, last-inst, exactly-one, inst-block, next-inst, prev-inst, shown-seq, Ranked};
-ghost use Rattle.faults.specs.Refusals.{told, told-found, IfAccepted};
-ghost use Rattle.faults.specs.Rules.{pp-block-rule, pp-cmp-rule};
-ghost use Rattle.walks.specs.Walks.{blocks-left, insts-left};
+ghost use Rattle.entities.specs.Reading.{inserted-block, inserted-inst, entry-block, last-block, prev-block, next-block, is-cold, slots-of, first-inst, last-inst, exactly-one, inst-block, next-inst, prev-inst, shown-seq};
 ghost use Rattle.layout.specs.Program.{program};
 use crate::Layout;
 use entities::Block;
 use entities::Inst;
 use entities::nodes::SequenceNumber;
-use entities::progpoint::Order;
-use entities::progpoint::ProgramPoint;
-use faults::LayoutFault;
-use walks::Blocks;
-use walks::Insts;
 
 impl Layout {
     /// How many blocks the layout keeps.
@@ -122,36 +112,5 @@ impl Layout {
         } else {
             None
         }
-    }
-
-    /// The block of the point `pp`: a block is its own, inserted or not.
-    pub fn pp_block(&self, pp: ProgramPoint) -> Result<Block, LayoutFault>
-        ensures { λ r. ⌜ told-found r ≡ pp-block-rule pp (program (now (self .entry))) ⌝ }
-    {
-        points::pp_block(&self.tables, pp)
-    }
-
-    /// Which of two points of one block comes first?
-    pub fn pp_cmp(&self, a: ProgramPoint, b: ProgramPoint) -> Result<Order, LayoutFault>
-        ensures numbers { λ r. ⌜ told r ≡ pp-cmp-rule a b (program (now (self .entry))) ⌝ }
-        ensures walk { λ r. ⌜ IfAccepted r (Ranked (program (now (self .entry))) a b) ⌝ }
-    {
-        points::pp_cmp(&self.tables, a, b)
-    }
-
-    /// A walk over all blocks, in order. It borrows the layout: no edit while it is in use.
-    pub fn blocks(&self) -> Blocks<'_>
-        ensures tables { λ r. ⌜ held (r .tables) ≡ now (self .entry) .tables ⌝ }
-        ensures all { λ r. ⌜ blocks-left (held (r .tables)) (r .next) ≡ blocks-of (program (now (self .entry)) .lines) ⌝ }
-    {
-        Blocks::new(&self.tables)
-    }
-
-    /// A walk over the instructions of `block`, from either end. It borrows the layout: no edit while it is in use.
-    pub fn block_insts(&self, block: Block) -> Insts<'_>
-        ensures tables { λ r. ⌜ held (r .tables) ≡ now (self .entry) .tables ⌝ }
-        ensures all { λ r. ⌜ insts-left (held (r .tables)) (r .block) (r .head) (r .tail) ≡ block-insts block (program (now (self .entry))) ⌝ }
-    {
-        Insts::new(&self.tables, block)
     }
 }
