@@ -1,5 +1,5 @@
 -- What every question of a layout answers, read off the list. Assumes nothing.
-use Rattle.std.specs.Prelude.{◌≡◌, ℕ, Bool, true, false, cond, List, [], ◌∷◌, ◌++◌, map, Some, None, Option, slice_index_or}
+use Rattle.std.specs.Prelude.{◌≡◌, ℕ, Bool, true, false, cond, List, [], ◌∷◌, ◌++◌, map, Some, None, Option, nat_eq, slice_index_or}
 use Rattle.chain.specs.Chain.{head_or, last_or}
 use Rattle.entities.specs.declared.Block.{Block}
 use Rattle.entities.specs.declared.Inst.{Inst}
@@ -9,15 +9,15 @@ use Rattle.entities.specs.declared.progpoint.Order.{Order}
 use Rattle.entities.specs.declared.progpoint.Order.TheVariants.{Less, Equal, Greater}
 use Rattle.entities.specs.Nodes.{block_place, inst_place}
 use Rattle.entities.specs.Lists.{of_first, holds, behind, ahead}
-use Rattle.entities.specs.Program.{Slot, Line, Program, insts_in, blocks_of, insts_of, is_block, has_inst, is_inst}
+use Rattle.entities.specs.Program.{Slot, Line, Program, insts_in, blocks_of, insts_of}
 
 -- what f reads off the line of block b; o where b is not inserted
 abbrev pub of_block : {A : Type 0} → Block → (Line → A) → A → List Line → A
-of_block b f o ls = of_first (is_block b) f o ls
+of_block b f o ls = of_first (λ l. nat_eq l.block.0 b.0) f o ls
 
 -- what f reads off the line in which i stands; o where i is not inserted
 abbrev pub of_inst : {A : Type 0} → Inst → (Line → A) → A → List Line → A
-of_inst i f o ls = of_first (has_inst i) f o ls
+of_inst i f o ls = of_first (λ l. holds inst_place i (insts_in l.slots)) f o ls
 
 -- ---- blocks
 
@@ -53,21 +53,12 @@ first_inst b p = head_or (block_insts b p) None
 abbrev pub last_inst : Block → Program → Option Inst
 last_inst b p = last_or None (block_insts b p)
 
--- is there nothing in the list?
-abbrev pub empty : {A : Type 0} → List A → Bool
-empty [] = true
-empty (x ∷ xs) = false
-
 abbrev pub exactly_one : {A : Type 0} → List A → Bool
 exactly_one [] = false
 exactly_one (x ∷ []) = true
 exactly_one (x ∷ y ∷ zs) = false
 
 -- ---- instructions
-
--- the slots of the block in which i stands
-abbrev pub slots_with : Inst → Program → List Slot
-slots_with i p = of_inst i (λ l. l.slots) [] p.lines
 
 abbrev pub inserted_inst : Inst → Program → Bool
 inserted_inst i p = holds inst_place i (insts_of p.lines)
@@ -83,7 +74,7 @@ prev_inst i p = of_inst i (λ l. ahead inst_place i (insts_in l.slots)) None p.l
 
 -- the number of i among these slots
 abbrev pub seq_in : Inst → List Slot → ℕ
-seq_in i ss = of_first (is_inst i) (λ s. s.seq) 0 ss
+seq_in i ss = of_first (λ s. nat_eq s.inst.0 i.0) (λ s. s.seq) 0 ss
 
 abbrev pub inst_seq : Inst → Program → ℕ
 inst_seq i p = of_inst i (λ l. seq_in i l.slots) 0 p.lines

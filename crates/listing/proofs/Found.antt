@@ -1,14 +1,12 @@
 -- Where a key stands in a list, and what `instead` makes there. Assumes nothing.
-use Rattle.std.proofs.Common.{◌≡◌, ℕ, Bool, true, false, cond, ◌⊎◌, List, [], ◌∷◌, ◌++◌, map, Some, None, Option, sym, refl, ap, ◌∙◌, subst, inl, inr}
+use Rattle.std.proofs.Common.{◌≡◌, ℕ, Bool, true, false, eqb, ◌⊎◌, List, [], ◌∷◌, ◌++◌, map, Some, None, Option, sym, refl, ap, ◌∙◌, subst, inl, inr}
 use Rattle.std.proofs.lemmas.Bool.{cases_eq, eq-eqb, ne_eqb}
-use Rattle.chain.proofs.Keys.{misses_left, misses_right, some_inj}
+use Rattle.chain.proofs.Keys.{some_inj}
 use Rattle.chain.specs.Chain.{Misses}
 use Rattle.entities.specs.Nodes.{block_place, inst_place}
-use Rattle.entities.specs.Lists.{ahead_of, from_on}
-use Rattle.entities.specs.Program.{Line, Slot, chosen, has_inst, instead, insts_in, insts_of, is_block, is_inst}
+use Rattle.entities.specs.Program.{Line, chosen, instead, insts_in, insts_of}
 use Rattle.entities.specs.declared.Block.{Block}
 use Rattle.entities.specs.declared.Inst.{Inst}
-use Rattle.listing.proofs.Stretches.{holds_not}
 
 abbrev block_from : ℕ → Block
 block_from n = record { 0 = n }
@@ -45,55 +43,21 @@ module _ {A K : Type 0} (place : K → ℕ) (apart : (a b : K) → place a ≡ p
             ]
       ]
 
--- ---- what passes a test in a list
-
--- none of the list passes
-abbrev pub NonePass : {A : Type 0} → (A → Bool) → List A → Type 0
-NonePass test [] = Unit {0}
-NonePass test (x ∷ xs) = (test x ≡ false) × NonePass test xs
-
-module _ {A : Type 0} (test : A → Bool) where
-  -- where none passes, all stays
-  pub instead_none : (f : A → List A) (xs : List A) → NonePass test xs → instead test f xs ≡ xs
+  -- where none has the key, all stays
+  pub instead_none : (f : A → List A) (xs : List A) → Misses (Some k) (map key xs) → instead (λ a. place (key a)) (place k) f xs ≡ xs
   instead_none f [] m = refl
-  instead_none f (x ∷ xs) m = ap (λ c. chosen c (f x) x (instead test f xs)) m.0 ∙ ap (λ r. x ∷ r) (instead_none f xs m.1)
+  instead_none f (x ∷ xs) m =
+      let t : eqb (place (key x)) (place k) ≡ false = ne_eqb (place (key x)) (place k) (λ e. m.0 (ap Some (sym (apart (key x) k e)))) in
+      ap (λ c. chosen c (f x) x (instead (λ a. place (key a)) (place k) f xs)) t ∙ ap (λ r. x ∷ r) (instead_none f xs m.1)
 
-  -- in place of the one that passes, f's list
-  pub instead_at : (f : A → List A) (xs : List A) (x : A) (ys : List A) → NonePass test xs → test x ≡ true → NonePass test ys → instead test f (xs ++ (x ∷ ys)) ≡ xs ++ (f x ++ ys)
-  instead_at f [] x ys mx e my = ap (λ c. chosen c (f x) x (instead test f ys)) e ∙ ap (λ r. f x ++ r) (instead_none f ys my)
-  instead_at f (z ∷ zs) x ys mx e my = ap (λ c. chosen c (f z) z (instead test f (zs ++ (x ∷ ys)))) mx.0 ∙ ap (λ r. z ∷ r) (instead_at f zs x ys mx.1 e my)
-
-  pub ahead_of_at : (xs : List A) (x : A) (ys : List A) → NonePass test xs → test x ≡ true → ahead_of test (xs ++ (x ∷ ys)) ≡ xs
-  ahead_of_at [] x ys m e = ap (λ c. cond c [] (x ∷ ahead_of test ys)) e
-  ahead_of_at (z ∷ zs) x ys m e = ap (λ c. cond c [] (z ∷ ahead_of test (zs ++ (x ∷ ys)))) m.0 ∙ ap (λ r. z ∷ r) (ahead_of_at zs x ys m.1 e)
-
-  pub from_on_at : (xs : List A) (x : A) (ys : List A) → NonePass test xs → test x ≡ true → from_on test (xs ++ (x ∷ ys)) ≡ x ∷ ys
-  from_on_at [] x ys m e = ap (λ c. cond c (x ∷ ys) (from_on test ys)) e
-  from_on_at (z ∷ zs) x ys m e = ap (λ c. cond c (z ∷ (zs ++ (x ∷ ys))) (from_on test (zs ++ (x ∷ ys)))) m.0 ∙ from_on_at zs x ys m.1 e
-
--- ---- the tests of lines and slots
-
-pub this_block : (b : Block) (l : Line) → l.block ≡ b → is_block b l ≡ true
-this_block b l e = eq-eqb l.block.0 b.0 (ap block_place e)
-
-pub other_blocks : (b : Block) (ls : List Line) → Misses (Some b) (map (λ l. l.block) ls) → NonePass (is_block b) ls
-other_blocks b [] m = tt
-other_blocks b (l ∷ ls) m = (ne_eqb l.block.0 b.0 (λ e. m.0 (ap Some (sym (block_apart l.block b e)))), other_blocks b ls m.1)
-
-pub this_inst : (i : Inst) (s : Slot) → s.inst ≡ i → is_inst i s ≡ true
-this_inst i s e = eq-eqb s.inst.0 i.0 (ap inst_place e)
-
-pub other_insts : (i : Inst) (ss : List Slot) → Misses (Some i) (insts_in ss) → NonePass (is_inst i) ss
-other_insts i [] m = tt
-other_insts i (s ∷ ss) m = (ne_eqb s.inst.0 i.0 (λ e. m.0 (ap Some (sym (inst_apart s.inst i e)))), other_insts i ss m.1)
-
-pub no_line_with : (i : Inst) (ls : List Line) → Misses (Some i) (insts_of ls) → NonePass (has_inst i) ls
-no_line_with i [] m = tt
-no_line_with i (l ∷ ls) m = (holds_not inst_place inst_apart i (insts_in l.slots) (misses_left (Some i) (insts_in l.slots) (insts_of ls) m), no_line_with i ls (misses_right (Some i) (insts_in l.slots) (insts_of ls) m))
-
--- the line of block b
-pub block_instead : (b : Block) (f : Line → List Line) (xs : List Line) (l : Line) (ys : List Line) → Misses (Some b) (map (λ m. m.block) xs) → l.block ≡ b → Misses (Some b) (map (λ m. m.block) ys) → instead (is_block b) f (xs ++ (l ∷ ys)) ≡ xs ++ (f l ++ ys)
-block_instead b f xs l ys mx e my = instead_at (is_block b) f xs l ys (other_blocks b xs mx) (this_block b l e) (other_blocks b ys my)
+  -- at the one that has it, f's list
+  pub instead_at : (f : A → List A) (xs : List A) (x : A) (ys : List A) → Misses (Some k) (map key xs) → key x ≡ k → Misses (Some k) (map key ys) → instead (λ a. place (key a)) (place k) f (xs ++ (x ∷ ys)) ≡ xs ++ (f x ++ ys)
+  instead_at f [] x ys mx e my =
+      let t : eqb (place (key x)) (place k) ≡ true = eq-eqb (place (key x)) (place k) (ap place e) in
+      ap (λ c. chosen c (f x) x (instead (λ a. place (key a)) (place k) f ys)) t ∙ ap (λ r. f x ++ r) (instead_none f ys my)
+  instead_at f (z ∷ zs) x ys mx e my =
+      let t : eqb (place (key z)) (place k) ≡ false = ne_eqb (place (key z)) (place k) (λ q. mx.0 (ap Some (sym (apart (key z) k q)))) in
+      ap (λ c. chosen c (f z) z (instead (λ a. place (key a)) (place k) f (zs ++ (x ∷ ys)))) t ∙ ap (λ r. z ∷ r) (instead_at f zs x ys mx.1 e my)
 
 pub map-append : {A B : Type 0} (f : A → B) (xs ys : List A) → map f (xs ++ ys) ≡ map f xs ++ map f ys
 map-append f [] ys = refl

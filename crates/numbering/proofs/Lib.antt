@@ -1,5 +1,3 @@
 pub mod Renumbering
-pub mod Tails
 pub mod Turns
-pub mod Pushes
 pub mod Assigning

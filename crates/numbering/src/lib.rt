@@ -2,12 +2,11 @@
 //!
 //! Numbers are assigned like line numbers in BASIC, 10, 20, 30 and so on, and rise strictly within a block.
 
-ghost use Rattle.std.specs.Prelude.{◌≡◌, ◌+◌, ◌*◌, ◌^◌, ◌<◌, ◌≤◌, ltb, length, nat_lt};
+ghost use Rattle.std.specs.Prelude.{◌≡◌, ◌+◌, ◌*◌, ◌^◌, ◌<◌, length};
 ghost use Rattle.chain.specs.Table.{read_at, Within};
 ghost use Rattle.entities.specs.Nodes.{inst_place, inst_links};
-ghost use Rattle.entities.specs.Numbering.{midpoint, seq_ceiling};
-ghost use Rattle.listing.specs.Numbers.{SomePlaced, SomeRun};
-ghost use Rattle.numbering.specs.Assigned.{AllAnew, AloneBetween, AloneLast, AnewBetween, AnewFrom, AnewLast, Assigned, BehindAnew, Crowded, LocallyAnew, SomeFollowed, ended, seq_ahead_of, seq_behind_of, with_number};
+ghost use Rattle.listing.specs.Numbers.{SomeRun, SomeRunTo};
+ghost use Rattle.numbering.specs.Assigned.{AllAnew, AnewFrom, Assigned, AssignedAlone, AssignedAnew, seq_ahead_of, with_number};
 
 use chain::Key;
 use entities::Inst;
@@ -16,70 +15,21 @@ use entities::nodes::{InstNode, SequenceNumber};
 /// Initial stride of new sequence numbers.
 const MAJOR_STRIDE: SequenceNumber = 10;
 
-/// Secondary stride, of local renumbering.
-const MINOR_STRIDE: SequenceNumber = 2;
-
-/// How far above the number ahead a local renumbering goes on; past that, the whole block is renumbered.
-const LOCAL_LIMIT: SequenceNumber = 200;
-
 /// The highest number behind which a renumbering of 202 more still fits 32 bits; above it a block is numbered anew.
 const SEQ_CEILING: SequenceNumber = 4294967093;
 
-/// How a local renumbering ended, with how many numbers it stored: it caught up or came to the block's end, or it passed its limit.
-#[derive(Clone, Copy)]
-pub enum LocalEnd {
-    Settled(u32),
-    PastLimit(u32),
-}
-
-/// The number half way between `a` and `b`, rounded down, if that is above `a`.
-pub fn midpoint(a: SequenceNumber, b: SequenceNumber) -> Option<SequenceNumber>
-    requires { a < b }
-    ensures { result ≡ midpoint a b }
-{
-    let m = a + (b - a) / 2;
-    if m > a { Some(m) } else { None }
-}
-
-/// Numbers `inst`, which was just put into the block whose first instruction is `first`: one stride behind the one ahead of it, if it
-/// is the last, or half way between its neighbours. Where these leave no number, it renumbers those behind it, and where that goes too
-/// far, the whole block. Returns how many numbers were stored.
+/// Numbers `inst`, the last of the block whose first instruction is `first`: one stride behind the one ahead of it, or, above the
+/// ceiling, together with the whole block. Returns how many numbers were stored.
 pub fn assign_inst_seq(insts: &mut [InstNode], first: Option<Inst>, inst: Inst) -> u32
-    requires { SomePlaced insts.old first inst }
+    requires { SomeRunTo insts.old first inst }
     ensures { Assigned insts.old insts.new first inst result }
 {
     let prev_seq = seq_ahead(insts, inst);
-    let Some(next_seq) = seq_behind(insts, inst) else {
-        if prev_seq <= SEQ_CEILING {
-            number_last(insts, inst, prev_seq + MAJOR_STRIDE);
-            return 1;
-        }
-        return renumber_block(insts, first);
-    };
-    if let Some(seq) = midpoint(prev_seq, next_seq) {
-        number_between(insts, inst, seq);
-        return 1;
-    }
     if prev_seq > SEQ_CEILING {
         return renumber_block(insts, first);
     }
-    renumber_crowded(insts, first, inst, prev_seq)
-}
-
-/// Numbers `inst` with `seq`, and those behind it with two more each, until it has caught up with the numbers that are there or passed
-/// `limit`.
-pub fn renumber_insts(
-    insts: &mut [InstNode],
-    inst: Inst,
-    seq: SequenceNumber,
-    limit: SequenceNumber,
-) -> LocalEnd
-    requires followed { SomeFollowed insts.old inst }
-    requires room { limit + 2 < 2 ^ 32 }
-    ensures { LocallyAnew insts.old insts.new inst seq limit result }
-{
-    set_seq(insts, inst, seq);
-    renumber_behind(insts, inst, seq, limit)
+    number_last(insts, inst, prev_seq + MAJOR_STRIDE);
+    1
 }
 
 /// Numbers all instructions of the block that begins with `first` anew: 10, 20, 30 and so on. Returns how many those are.
@@ -90,94 +40,22 @@ pub fn full_block_renumber(insts: &mut [InstNode], first: Option<Inst>) -> u32
     renumber_from(insts, first, MAJOR_STRIDE)
 }
 
-// `full_block_renumber` for a caller that has put an instruction in: where the number ahead of it is above the ceiling, and there is no
-// midpoint, this is how the block is to be numbered.
+// `full_block_renumber` for a caller that has appended an instruction: where the number ahead of it is above the ceiling, this is how
+// the block is to be numbered.
 fn renumber_block(insts: &mut [InstNode], first: Option<Inst>) -> u32
     requires { SomeRun insts.old first }
-    ensures last { AnewLast insts.old insts.new first result }
-    ensures between { AnewBetween insts.old insts.new first result }
+    ensures { AssignedAnew insts.old insts.new first result }
 {
     full_block_renumber(insts, first)
 }
 
-// `set_seq` for a caller that has put `inst` in at the end: where the number ahead of it is up to the ceiling, and `seq` a stride more,
-// this is how the block is to be numbered.
+// `set_seq` for a caller that has appended `inst`: where the number ahead of it is up to the ceiling, and `seq` a stride more, this is
+// how the block is to be numbered.
 fn number_last(insts: &mut [InstNode], inst: Inst, seq: SequenceNumber)
     requires { inst.0 < length insts.old }
-    ensures { AloneLast insts.old insts.new inst seq }
+    ensures { AssignedAlone insts.old insts.new inst seq }
 {
     set_seq(insts, inst, seq);
-}
-
-// `set_seq` for a caller that has put `inst` in between two others: where `seq` is their midpoint, this is how the block is to be
-// numbered.
-fn number_between(insts: &mut [InstNode], inst: Inst, seq: SequenceNumber)
-    requires { inst.0 < length insts.old }
-    ensures { AloneBetween insts.old insts.new inst seq }
-{
-    set_seq(insts, inst, seq);
-}
-
-// Numbers `inst` where the numbers of its neighbours leave none: local renumbering, and if that passes its limit, the whole block.
-// Returns how many numbers were stored by both.
-fn renumber_crowded(
-    insts: &mut [InstNode],
-    first: Option<Inst>,
-    inst: Inst,
-    prev_seq: SequenceNumber,
-) -> u32
-    requires placed { SomePlaced insts.old first inst }
-    requires room { prev_seq ≤ seq_ceiling }
-    ensures { Crowded insts.old insts.new first inst prev_seq result }
-{
-    match renumber_insts(insts, inst, prev_seq + MINOR_STRIDE, prev_seq + LOCAL_LIMIT) {
-        LocalEnd::Settled(count) => count,
-        LocalEnd::PastLimit(count) => count + full_block_renumber(insts, first),
-    }
-}
-
-// Goes on with a local renumbering that has given `inst` the number `seq`.
-fn renumber_behind(
-    insts: &mut [InstNode],
-    inst: Inst,
-    mut seq: SequenceNumber,
-    limit: SequenceNumber,
-) -> LocalEnd
-    requires followed { SomeFollowed insts.old inst }
-    requires room { limit + 2 < 2 ^ 32 }
-    ensures { BehindAnew insts.old insts.new inst seq limit result }
-{
-    let mut count = 1;
-    let mut next_inst = insts[inst.index()].next;
-    while let Some(next) = next_inst {
-        if let Some(end) = local_end(seq, insts[next.index()].seq, limit, count) {
-            return end;
-        }
-        seq += MINOR_STRIDE;
-        set_seq(insts, next, seq);
-        count += 1;
-        next_inst = insts[next.index()].next;
-    }
-    LocalEnd::Settled(count)
-}
-
-// Where a local renumbering ends ahead of a write, `count` numbers stored so far: it has caught up with the number that is there, or it
-// has passed its limit. None where it goes on.
-fn local_end(
-    seq: SequenceNumber,
-    next_seq: SequenceNumber,
-    limit: SequenceNumber,
-    count: u32,
-) -> Option<LocalEnd>
-    ensures { result ≡ ended (ltb seq next_seq) (nat_lt limit seq) count }
-{
-    if seq < next_seq {
-        return Some(LocalEnd::Settled(count));
-    }
-    if seq > limit {
-        return Some(LocalEnd::PastLimit(count));
-    }
-    None
 }
 
 // Numbers the instructions from `first` to the end of its block: `seq`, a stride more, and so on. Returns how many those are.
@@ -206,18 +84,6 @@ fn seq_ahead(insts: &[InstNode], inst: Inst) -> SequenceNumber
     match insts[inst.index()].prev {
         Some(prev) => insts[prev.index()].seq,
         None => 0,
-    }
-}
-
-// The number of the instruction behind `inst`, if one stands there.
-fn seq_behind(insts: &[InstNode], inst: Inst) -> Option<SequenceNumber>
-    requires here { inst.0 < length insts.now }
-    requires next { Within inst_place (length insts.now) (read_at inst_links.next_of insts.now inst.0) }
-    ensures { result ≡ seq_behind_of insts.now inst }
-{
-    match insts[inst.index()].next {
-        Some(next) => Some(insts[next.index()].seq),
-        None => None,
     }
 }
 

@@ -1,5 +1,5 @@
-use Rattle.numbering.proofs.Assigning.{alone_last}
+use Rattle.numbering.proofs.Assigning.{alone}
 use Rattle.numbering.proofs.number_last.Goals as goal
 
 pub returns : goal.returns
-returns c = alone_last c.set-seq.ensures
+returns c = alone c.requires c.set-seq.ensures

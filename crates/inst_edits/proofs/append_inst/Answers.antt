@@ -1,4 +1,0 @@
-use Rattle.inst_edits.proofs.append_inst.Goals as goal
-
-pub number-linked-requires : goal.number-linked-requires
-number-linked-requires c = record { writes = _; program = _; linked = c.link-last.ensures.linked }

@@ -1,5 +1,0 @@
-use Rattle.inst_edits.proofs.Closing.{closed}
-use Rattle.inst_edits.proofs.close_up.Goals as goal
-
-pub returns : goal.returns
-returns c t k none = closed t c.args.tables.now c.args.inst c.args.block c.args.ends c.args.name _ _ k none c.set-inst-ends.ensures c.set-block.ensures
