@@ -1,5 +1,7 @@
 //! The questions of each edit, put to the tables top to bottom: the first no refuses.
 
+#![tactic(auto)]
+
 ghost use Rattle.std.specs.Prelude.{◌≡◌, true, false, ◌<◌};
 ghost use Rattle.entities.specs.Reading.{inserted_block, inserted_inst};
 ghost use Rattle.faults.specs.Questions.{FirstNo, in_range_block, append_block_asked, append_inst_asked, set_cold_asked};

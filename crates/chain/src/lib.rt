@@ -2,6 +2,8 @@
 //!
 //! The operations are written once, for every node that has both links; they know nothing of blocks or instructions.
 
+#![tactic(auto)]
+
 ghost use Rattle.std.specs.Prelude.{◌≡◌, ℕ, ◌<◌, length, Some, None};
 ghost use Rattle.chain.specs.Links.{Links};
 ghost use Rattle.chain.specs.Chain.{Inserts, Removes};
@@ -49,11 +51,11 @@ pub struct Ends<K> {
 
 /// Puts `key` at the end of the chain.
 pub fn append<N: LinkedNode>(nodes: &mut [N], ends: Ends<N::Key>, key: N::Key) -> Ends<N::Key>
-    requires key { N.Key.Key.place key < length nodes.old }
-    requires last { Within N.Key.Key.place (length nodes.old) ends.last }
-    ensures table { nodes.new ≡ inserted_table N.Key.Key.place links nodes.old ends.last None key }
+    requires key { N.Key.place key < length nodes.old }
+    requires last { Within N.Key.place (length nodes.old) ends.last }
+    ensures table { nodes.new ≡ inserted_table N.Key.place N.links nodes.old ends.last None key }
     ensures ends { result ≡ inserted_ends ends ends.last None key }
-    ensures chain { Inserts N.Key.Key.place links nodes.old ends key ends.last None nodes.new result }
+    ensures chain { Inserts N.Key.place N.links nodes.old ends key ends.last None nodes.new result }
 {
     put_between(nodes, ends, ends.last, None, key)
 }
@@ -65,12 +67,12 @@ pub fn insert_before<N: LinkedNode>(
     key: N::Key,
     before: N::Key,
 ) -> Ends<N::Key>
-    requires key { N.Key.Key.place key < length nodes.old }
-    requires before { N.Key.Key.place before < length nodes.old }
-    requires prev { Within N.Key.Key.place (length nodes.old) (read_at links.prev_of nodes.old (N.Key.Key.place before)) }
-    ensures table { nodes.new ≡ inserted_table N.Key.Key.place links nodes.old (read_at links.prev_of nodes.old (N.Key.Key.place before)) (Some before) key }
-    ensures ends { result ≡ inserted_ends ends (read_at links.prev_of nodes.old (N.Key.Key.place before)) (Some before) key }
-    ensures chain { Inserts N.Key.Key.place links nodes.old ends key (read_at links.prev_of nodes.old (N.Key.Key.place before)) (Some before) nodes.new result }
+    requires key { N.Key.place key < length nodes.old }
+    requires before { N.Key.place before < length nodes.old }
+    requires prev { Within N.Key.place (length nodes.old) (read_at N.links.prev_of nodes.old (N.Key.place before)) }
+    ensures table { nodes.new ≡ inserted_table N.Key.place N.links nodes.old (read_at N.links.prev_of nodes.old (N.Key.place before)) (Some before) key }
+    ensures ends { result ≡ inserted_ends ends (read_at N.links.prev_of nodes.old (N.Key.place before)) (Some before) key }
+    ensures chain { Inserts N.Key.place N.links nodes.old ends key (read_at N.links.prev_of nodes.old (N.Key.place before)) (Some before) nodes.new result }
 {
     let prev = prev_of(nodes, before);
     put_between(nodes, ends, prev, Some(before), key)
@@ -83,12 +85,12 @@ pub fn insert_after<N: LinkedNode>(
     key: N::Key,
     after: N::Key,
 ) -> Ends<N::Key>
-    requires key { N.Key.Key.place key < length nodes.old }
-    requires after { N.Key.Key.place after < length nodes.old }
-    requires next { Within N.Key.Key.place (length nodes.old) (read_at links.next_of nodes.old (N.Key.Key.place after)) }
-    ensures table { nodes.new ≡ inserted_table N.Key.Key.place links nodes.old (Some after) (read_at links.next_of nodes.old (N.Key.Key.place after)) key }
-    ensures ends { result ≡ inserted_ends ends (Some after) (read_at links.next_of nodes.old (N.Key.Key.place after)) key }
-    ensures chain { Inserts N.Key.Key.place links nodes.old ends key (Some after) (read_at links.next_of nodes.old (N.Key.Key.place after)) nodes.new result }
+    requires key { N.Key.place key < length nodes.old }
+    requires after { N.Key.place after < length nodes.old }
+    requires next { Within N.Key.place (length nodes.old) (read_at N.links.next_of nodes.old (N.Key.place after)) }
+    ensures table { nodes.new ≡ inserted_table N.Key.place N.links nodes.old (Some after) (read_at N.links.next_of nodes.old (N.Key.place after)) key }
+    ensures ends { result ≡ inserted_ends ends (Some after) (read_at N.links.next_of nodes.old (N.Key.place after)) key }
+    ensures chain { Inserts N.Key.place N.links nodes.old ends key (Some after) (read_at N.links.next_of nodes.old (N.Key.place after)) nodes.new result }
 {
     let next = next_of(nodes, after);
     put_between(nodes, ends, Some(after), next, key)
@@ -96,12 +98,12 @@ pub fn insert_after<N: LinkedNode>(
 
 /// Takes `key` out of the chain and leaves its node with neither link.
 pub fn remove<N: LinkedNode>(nodes: &mut [N], ends: Ends<N::Key>, key: N::Key) -> Ends<N::Key>
-    requires key { N.Key.Key.place key < length nodes.old }
-    requires prev { Within N.Key.Key.place (length nodes.old) (read_at links.prev_of nodes.old (N.Key.Key.place key)) }
-    requires next { Within N.Key.Key.place (length nodes.old) (read_at links.next_of nodes.old (N.Key.Key.place key)) }
-    ensures table { nodes.new ≡ removed_table N.Key.Key.place links nodes.old (read_at links.prev_of nodes.old (N.Key.Key.place key)) (read_at links.next_of nodes.old (N.Key.Key.place key)) key }
-    ensures ends { result ≡ removed_ends ends (read_at links.prev_of nodes.old (N.Key.Key.place key)) (read_at links.next_of nodes.old (N.Key.Key.place key)) }
-    ensures chain { Removes N.Key.Key.place links nodes.old ends key (read_at links.prev_of nodes.old (N.Key.Key.place key)) (read_at links.next_of nodes.old (N.Key.Key.place key)) nodes.new result }
+    requires key { N.Key.place key < length nodes.old }
+    requires prev { Within N.Key.place (length nodes.old) (read_at N.links.prev_of nodes.old (N.Key.place key)) }
+    requires next { Within N.Key.place (length nodes.old) (read_at N.links.next_of nodes.old (N.Key.place key)) }
+    ensures table { nodes.new ≡ removed_table N.Key.place N.links nodes.old (read_at N.links.prev_of nodes.old (N.Key.place key)) (read_at N.links.next_of nodes.old (N.Key.place key)) key }
+    ensures ends { result ≡ removed_ends ends (read_at N.links.prev_of nodes.old (N.Key.place key)) (read_at N.links.next_of nodes.old (N.Key.place key)) }
+    ensures chain { Removes N.Key.place N.links nodes.old ends key (read_at N.links.prev_of nodes.old (N.Key.place key)) (read_at N.links.next_of nodes.old (N.Key.place key)) nodes.new result }
 {
     let prev = prev_of(nodes, key);
     let next = next_of(nodes, key);
@@ -116,12 +118,12 @@ fn put_between<N: LinkedNode>(
     next: Option<N::Key>,
     key: N::Key,
 ) -> Ends<N::Key>
-    requires key { N.Key.Key.place key < length nodes.old }
-    requires prev { Within N.Key.Key.place (length nodes.old) prev }
-    requires next { Within N.Key.Key.place (length nodes.old) next }
-    ensures table { nodes.new ≡ inserted_table N.Key.Key.place links nodes.old prev next key }
+    requires key { N.Key.place key < length nodes.old }
+    requires prev { Within N.Key.place (length nodes.old) prev }
+    requires next { Within N.Key.place (length nodes.old) next }
+    ensures table { nodes.new ≡ inserted_table N.Key.place N.links nodes.old prev next key }
     ensures ends { result ≡ inserted_ends ends prev next key }
-    ensures chain { Inserts N.Key.Key.place links nodes.old ends key prev next nodes.new result }
+    ensures chain { Inserts N.Key.place N.links nodes.old ends key prev next nodes.new result }
 {
     link_between(nodes, ends, prev, next, key)
 }
@@ -134,12 +136,12 @@ fn take_between<N: LinkedNode>(
     next: Option<N::Key>,
     key: N::Key,
 ) -> Ends<N::Key>
-    requires key { N.Key.Key.place key < length nodes.old }
-    requires prev { Within N.Key.Key.place (length nodes.old) prev }
-    requires next { Within N.Key.Key.place (length nodes.old) next }
-    ensures table { nodes.new ≡ removed_table N.Key.Key.place links nodes.old prev next key }
+    requires key { N.Key.place key < length nodes.old }
+    requires prev { Within N.Key.place (length nodes.old) prev }
+    requires next { Within N.Key.place (length nodes.old) next }
+    ensures table { nodes.new ≡ removed_table N.Key.place N.links nodes.old prev next key }
     ensures ends { result ≡ removed_ends ends prev next }
-    ensures chain { Removes N.Key.Key.place links nodes.old ends key prev next nodes.new result }
+    ensures chain { Removes N.Key.place N.links nodes.old ends key prev next nodes.new result }
 {
     unlink_between(nodes, ends, prev, next, key)
 }
@@ -152,10 +154,10 @@ fn link_between<N: LinkedNode>(
     next: Option<N::Key>,
     key: N::Key,
 ) -> Ends<N::Key>
-    requires key { N.Key.Key.place key < length nodes.old }
-    requires prev { Within N.Key.Key.place (length nodes.old) prev }
-    requires next { Within N.Key.Key.place (length nodes.old) next }
-    ensures table { nodes.new ≡ inserted_table N.Key.Key.place links nodes.old prev next key }
+    requires key { N.Key.place key < length nodes.old }
+    requires prev { Within N.Key.place (length nodes.old) prev }
+    requires next { Within N.Key.place (length nodes.old) next }
+    ensures table { nodes.new ≡ inserted_table N.Key.place N.links nodes.old prev next key }
     ensures ends { result ≡ inserted_ends ends prev next key }
 {
     link_prev(nodes, Some(key), prev);
@@ -175,10 +177,10 @@ fn unlink_between<N: LinkedNode>(
     next: Option<N::Key>,
     key: N::Key,
 ) -> Ends<N::Key>
-    requires key { N.Key.Key.place key < length nodes.old }
-    requires prev { Within N.Key.Key.place (length nodes.old) prev }
-    requires next { Within N.Key.Key.place (length nodes.old) next }
-    ensures table { nodes.new ≡ removed_table N.Key.Key.place links nodes.old prev next key }
+    requires key { N.Key.place key < length nodes.old }
+    requires prev { Within N.Key.place (length nodes.old) prev }
+    requires next { Within N.Key.place (length nodes.old) next }
+    ensures table { nodes.new ≡ removed_table N.Key.place N.links nodes.old prev next key }
     ensures ends { result ≡ removed_ends ends prev next }
 {
     link_prev(nodes, Some(key), None);
@@ -202,8 +204,8 @@ fn at_end<K: Copy>(neighbour: Option<K>, new: Option<K>, old: Option<K>) -> Opti
 
 // The node at `at`, if there is one, gets `link` to the one ahead of it.
 fn link_prev<N: LinkedNode>(nodes: &mut [N], at: Option<N::Key>, link: Option<N::Key>)
-    requires { Within N.Key.Key.place (length nodes.old) at }
-    ensures { nodes.new ≡ alter_at N.Key.Key.place nodes.old at (λ n. links.with_prev n link) }
+    requires { Within N.Key.place (length nodes.old) at }
+    ensures { nodes.new ≡ alter_at N.Key.place nodes.old at (λ n. N.links.with_prev n link) }
 {
     if let Some(key) = at {
         nodes[key.index()].set_prev(link);
@@ -212,8 +214,8 @@ fn link_prev<N: LinkedNode>(nodes: &mut [N], at: Option<N::Key>, link: Option<N:
 
 // The node at `at`, if there is one, gets `link` to the one behind it.
 fn link_next<N: LinkedNode>(nodes: &mut [N], at: Option<N::Key>, link: Option<N::Key>)
-    requires { Within N.Key.Key.place (length nodes.old) at }
-    ensures { nodes.new ≡ alter_at N.Key.Key.place nodes.old at (λ n. links.with_next n link) }
+    requires { Within N.Key.place (length nodes.old) at }
+    ensures { nodes.new ≡ alter_at N.Key.place nodes.old at (λ n. N.links.with_next n link) }
 {
     if let Some(key) = at {
         nodes[key.index()].set_next(link);
@@ -222,16 +224,16 @@ fn link_next<N: LinkedNode>(nodes: &mut [N], at: Option<N::Key>, link: Option<N:
 
 // The key that the node at `key` has ahead of it.
 fn prev_of<N: LinkedNode>(nodes: &[N], key: N::Key) -> Option<N::Key>
-    requires { N.Key.Key.place key < length nodes.now }
-    ensures { result ≡ read_at links.prev_of nodes.now (N.Key.Key.place key) }
+    requires { N.Key.place key < length nodes.now }
+    ensures { result ≡ read_at N.links.prev_of nodes.now (N.Key.place key) }
 {
     nodes[key.index()].prev()
 }
 
 // The key that the node at `key` has behind it.
 fn next_of<N: LinkedNode>(nodes: &[N], key: N::Key) -> Option<N::Key>
-    requires { N.Key.Key.place key < length nodes.now }
-    ensures { result ≡ read_at links.next_of nodes.now (N.Key.Key.place key) }
+    requires { N.Key.place key < length nodes.now }
+    ensures { result ≡ read_at N.links.next_of nodes.now (N.Key.place key) }
 {
     nodes[key.index()].next()
 }

@@ -1,6 +1,8 @@
 //! Tests of the layout by its public calls, most of them tables of cases. Each expected value follows from the rules in docs/RULES.md,
 //! and none from our own output.
 
+#![tactic(auto)]
+
 #[cfg(test)]
 mod tests {
     use entities::progpoint::{Order, ProgramPoint};

@@ -1,5 +1,7 @@
 //! The things a layout orders, and the nodes that hold them.
 
+#![tactic(auto)]
+
 ghost use Rattle.std.specs.Prelude.{◌≡◌};
 ghost use Rattle.entities.specs.Nodes.{block_place, inst_place, block_with_number};
 ghost use Rattle.std.proofs.Common.{rules};

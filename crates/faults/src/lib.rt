@@ -1,5 +1,7 @@
 //! Refusals: the number of the question that was answered no, the layer that asked it, and the entity at fault; and their text.
 
+#![tactic(auto)]
+
 ghost use Rattle.std.specs.Prelude.{◌≡◌, Some};
 ghost use Rattle.faults.specs.Refusals.{refusal_of, entity_at};
 ghost use Rattle.faults.specs.Text.{layer_text, entity_text};

@@ -1,5 +1,7 @@
 //! The handset: enters a dispatch program, asks who comes first, and prints it.
 
+#![tactic(auto)]
+
 use entities::progpoint::Order;
 use entities::{BLOCK_CAPACITY, Block, Inst};
 use faults::LayoutFault;

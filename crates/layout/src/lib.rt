@@ -1,5 +1,7 @@
 //! The layout: the order of the blocks, which block an instruction stands in, and the order of the instructions in a block.
 
+#![tactic(auto)]
+
 ghost use Rattle.listing.specs.Lawful.{Sound};
 
 use entities::nodes::Tables;

@@ -2,6 +2,8 @@
 //!
 //! Numbers are assigned like line numbers in BASIC, 10, 20, 30 and so on, and rise strictly within a block.
 
+#![tactic(auto)]
+
 ghost use Rattle.std.specs.Prelude.{◌≡◌, ◌+◌, ◌*◌, ◌^◌, ◌<◌, length};
 ghost use Rattle.chain.specs.Table.{read_at, Within};
 ghost use Rattle.entities.specs.Nodes.{inst_place, inst_links};

@@ -1,5 +1,7 @@
 //! Program points: the block of a point, and which of two points comes first.
 
+#![tactic(auto)]
+
 ghost use Rattle.std.specs.Prelude.{◌≡◌, true, is_some, Some};
 ghost use Rattle.entities.specs.Points.{compared};
 ghost use Rattle.entities.specs.Reading.{inserted_point, point_block, point_seq, Ranked};

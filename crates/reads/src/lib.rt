@@ -2,6 +2,8 @@
 //!
 //! The public functions ask for sound tables; those of a layout always are.
 
+#![tactic(auto)]
+
 ghost use Rattle.std.specs.Prelude.{◌≡◌, slice_index_or};
 ghost use Rattle.entities.specs.Nodes.{no_block, no_inst};
 ghost use Rattle.entities.specs.Reading.{inserted_block, entry_block, last_block, slots_of, exactly_one};

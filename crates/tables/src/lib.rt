@@ -2,6 +2,8 @@
 //!
 //! The public functions ask for sound tables; those of a layout always are.
 
+#![tactic(auto)]
+
 ghost use Rattle.std.specs.Prelude.{◌≡◌, ◌<◌, true, false, [], length, replicate, Some, slice_set};
 ghost use Rattle.chain.specs.Table.{alter};
 ghost use Rattle.entities.specs.declared.nodes.Tables.{Tables as TablesOf};

@@ -3,6 +3,8 @@
 //! A walk borrows the tables, so the compiler refuses an edit until the walk is over. To edit on the way, go by the neighbours'
 //! questions instead.
 
+#![tactic(auto)]
+
 ghost use Rattle.std.specs.Prelude.{◌≡◌, true, [], ◌∷◌, ◌++◌, length, Some};
 ghost use Rattle.entities.specs.Program.{blocks_of};
 ghost use Rattle.entities.specs.Reading.{entry_block, block_insts, first_inst, last_inst};

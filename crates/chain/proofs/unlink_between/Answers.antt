@@ -3,6 +3,6 @@ use Rattle.chain.proofs.unlink_between.Goals as goal
 
 pub returns : goal.returns
 returns g c = record {
-  table = four_writes g.Key-as-Key.place g.N.LinkedNode.links _ _ _ _ _ c.args.key c.args.prev c.args.next _ _ _ _ c.link-prev.ensures c.link-next.ensures c.link-next-2.ensures c.link-prev-2.ensures;
-  ends = ends_are _ _ _ _ c.at-end-first.ensures c.at-end-last.ensures;
+  table = four_writes g.N.Key.Key.place g.N.LinkedNode.links _ _ _ _ _ c.args.key c.args.prev c.args.next _ _ _ _ c.link_prev.ensures c.link_next.ensures c.link_next-2.ensures c.link_prev-2.ensures;
+  ends = ends_are _ _ _ _ c.at_end-first.ensures c.at_end-last.ensures;
 }
