@@ -13,8 +13,8 @@ link c = sym (node_reads inst_links.prev_of c.args.insts.now c.args.inst.0 c.ind
 prev_in_table : (c : goal.After-index-in-Some) → c.in-Some.prev.0 < length c.args.insts.now
 prev_in_table c = subst (λ o. Within inst_place (length c.args.insts.now) o) (link c) c.requires.prev
 
-pub offset-bounds-insts-index-in-Some : goal.offset-bounds-insts-index-in-Some
-offset-bounds-insts-index-in-Some c = omega (arith, prev_in_table c)
+pub offset_bounds-insts-index-in-Some : goal.offset_bounds-insts-index-in-Some
+offset_bounds-insts-index-in-Some c = omega (arith, prev_in_table c)
 
 pub bounds-insts-index-in-Some : goal.bounds-insts-index-in-Some
 bounds-insts-index-in-Some c = omega (arith, prev_in_table c)

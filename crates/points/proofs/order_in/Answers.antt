@@ -6,11 +6,11 @@ use Rattle.listing.specs.Lawful.{program_of}
 use Rattle.listing.proofs.Ranks.{ranked, point_inserted}
 use Rattle.points.proofs.order_in.Goals as goal
 
-pub point-seq-requires : goal.point-seq-requires
-point-seq-requires c = let t = c.args.tables.now in record { sound = c.requires.sound; inserted = point_inserted t c.requires.sound c.args.a c.args.block c.requires.a }
+pub point_seq-requires : goal.point_seq-requires
+point_seq-requires c = let t = c.args.tables.now in record { sound = c.requires.sound; inserted = point_inserted t c.requires.sound c.args.a c.args.block c.requires.a }
 
-pub point-seq-requires-2 : goal.point-seq-requires-2
-point-seq-requires-2 c = let t = c.args.tables.now in record { sound = c.requires.sound; inserted = point_inserted t c.requires.sound c.args.b c.args.block c.requires.b }
+pub point_seq-requires-2 : goal.point_seq-requires-2
+point_seq-requires-2 c = let t = c.args.tables.now in record { sound = c.requires.sound; inserted = point_inserted t c.requires.sound c.args.b c.args.block c.requires.b }
 
 pub returns : goal.returns
 returns c =
@@ -18,5 +18,5 @@ returns c =
     let p = program_of t in
     let a = c.args.a in
     let b = c.args.b in
-    let is : c.of.result ≡ compared (point_seq a p) (point_seq b p) = c.of.ensures ∙ ap (λ n. compared n c.point-seq-2.result) c.point-seq.ensures ∙ ap (λ n. compared (point_seq a p) n) c.point-seq-2.ensures in
+    let is : c.of.result ≡ compared (point_seq a p) (point_seq b p) = c.of.ensures ∙ ap (λ n. compared n c.point_seq-2.result) c.point_seq.ensures ∙ ap (λ n. compared (point_seq a p) n) c.point_seq-2.ensures in
     record { numbers = is; walk = subst (λ (o : Order). Ranked p a b o) (sym is) (ranked t c.requires.sound a b c.args.block c.requires.a c.requires.b) }

@@ -1,4 +1,4 @@
 use Rattle.tables.proofs.append_inst.Goals as goal
 
-pub number-last-requires : goal.number-last-requires
-number-last-requires c = record { before = c.args.tables.now; linked = c.link-inst.ensures }
+pub number_last-requires : goal.number_last-requires
+number_last-requires c = record { before = c.args.tables.now; linked = c.link_inst.ensures }

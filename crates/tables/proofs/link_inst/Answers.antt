@@ -9,8 +9,8 @@ use Rattle.listing.proofs.InstLaws.{last_low}
 use Rattle.listing.proofs.Landed.{block_stands, inst_linked}
 use Rattle.tables.proofs.link_inst.Goals as goal
 
-pub inst-ends-old-requires : goal.inst-ends-old-requires
-inst-ends-old-requires c = let t = c.args.tables.now in (in_table t c.args.block (sound_out c.requires.sound).wired (block_stands t c.args.block c.requires.inserted)).here
+pub inst_ends-old-requires : goal.inst_ends-old-requires
+inst_ends-old-requires c = let t = c.args.tables.now in (in_table t c.args.block (sound_out c.requires.sound).wired (block_stands t c.args.block c.requires.inserted)).here
 
 pub append-new-requires : goal.append-new-requires
 append-new-requires c =
@@ -18,15 +18,15 @@ append-new-requires c =
     let law = (sound_out c.requires.sound).wired in
     record {
       key = subst (λ n. c.args.inst.0 < n) (sym law.insts_size) c.requires.range;
-      last = subst (λ (e : Ends Inst). Within inst_place (length t.insts) e.last) (sym c.inst-ends-old.ensures) (last_low t c.args.block law (block_stands t c.args.block c.requires.inserted));
+      last = subst (λ (e : Ends Inst). Within inst_place (length t.insts) e.last) (sym c.inst_ends-old.ensures) (last_low t c.args.block law (block_stands t c.args.block c.requires.inserted));
     }
 
-pub set-inst-ends-requires : goal.set-inst-ends-requires
-set-inst-ends-requires c = let t = c.args.tables.now in (in_table t c.args.block (sound_out c.requires.sound).wired (block_stands t c.args.block c.requires.inserted)).here
+pub set_inst_ends-requires : goal.set_inst_ends-requires
+set_inst_ends-requires c = let t = c.args.tables.now in (in_table t c.args.block (sound_out c.requires.sound).wired (block_stands t c.args.block c.requires.inserted)).here
 
 pub returns : goal.returns
 returns c = record {
   sound = c.requires.sound;
   inserted = c.requires.inserted;
-  edited = inst_linked c.args.tables.now c.args.block c.args.inst _ _ _ _ _ c.requires.sound c.requires.range c.requires.inserted c.requires.fresh c.inst-ends-old.ensures c.append-new.ensures.table c.append-new.ensures.chain c.set-inst-ends.ensures c.set-block.ensures;
+  edited = inst_linked c.args.tables.now c.args.block c.args.inst _ _ _ _ _ c.requires.sound c.requires.range c.requires.inserted c.requires.fresh c.inst_ends-old.ensures c.append-new.ensures.table c.append-new.ensures.chain c.set_inst_ends.ensures c.set_block.ensures;
 }

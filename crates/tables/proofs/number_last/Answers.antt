@@ -11,15 +11,15 @@ use Rattle.listing.proofs.Landed.{block_stands, still_low}
 use Rattle.listing.proofs.Appends.{found, run_to, some_run_to, slots_here, ahead_written, numbered}
 use Rattle.tables.proofs.number_last.Goals as goal
 
-pub inst-ends-first-requires : goal.inst-ends-first-requires
-inst-ends-first-requires c = let l = c.requires.linked in still_low c.requires.before c.args.tables.now c.args.block l.sound l.inserted l.edited
+pub inst_ends-first-requires : goal.inst_ends-first-requires
+inst_ends-first-requires c = let l = c.requires.linked in still_low c.requires.before c.args.tables.now c.args.block l.sound l.inserted l.edited
 
-pub assign-inst-seq-requires : goal.assign-inst-seq-requires
-assign-inst-seq-requires c =
+pub assign_inst_seq-requires : goal.assign_inst_seq-requires
+assign_inst_seq-requires c =
     let t = c.requires.before in
     let l = c.requires.linked in
     let b = c.args.block in
-    let first = ap (λ (e : Ends Inst). e.first) c.inst-ends-first.ensures in
+    let first = ap (λ (e : Ends Inst). e.first) c.inst_ends-first.ensures in
     subst (λ (o : Option Inst). SomeRunTo c.args.tables.now.insts o c.args.inst) (sym first) (some_run_to t c.args.tables.now b c.args.inst (sound_out l.sound) (block_stands t b l.inserted) l.edited)
 
 pub returns : goal.returns
@@ -30,8 +30,8 @@ returns c t l =
     let law = sound_out l.sound in
     let stands = block_stands t b l.inserted in
     let ss = (found t t1 b i law stands l.edited).it.slots in
-    let first = ap (λ (e : Ends Inst). e.first) c.inst-ends-first.ensures in
+    let first = ap (λ (e : Ends Inst). e.first) c.inst_ends-first.ensures in
     let run = subst (λ (o : Option Inst). Run t1.insts o (insts_in ss ++ (i ∷ []))) (sym first) (run_to t t1 b i law stands l.edited) in
-    let stored = c.assign-inst-seq.ensures ss run (ahead_written t t1 b i law stands l.edited) in
+    let stored = c.assign_inst_seq.ensures ss run (ahead_written t t1 b i law stands l.edited) in
     let r = numbered t t1 b i law stands l.edited _ _ refl stored.table in
     record { sound = r.0; count = stored.count ∙ ap (λ q. (numbered_last q i).writes) (sym (slots_here t t1 b i law stands l.edited)); program = r.1 }

@@ -12,5 +12,5 @@ pub returns : goal.returns
 returns c =
     let t = c.args.tables.now in
     let apart : c.args.head ≡ Some c.args.tail → ⊥ = let f = c.if-eq.ensures in search (rules, f) in
-    let s = insts_back t c.requires.sound c.args.block c.args.head c.inst-node.result.prev c.args.tail c.requires.on apart c.inst-node.ensures.prev in
+    let s = insts_back t c.requires.sound c.args.block c.args.head c.inst_node.result.prev c.args.tail c.requires.on apart c.inst_node.ensures.prev in
     record { on = s.0; left = s.1 }

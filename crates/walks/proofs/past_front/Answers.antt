@@ -12,5 +12,5 @@ pub returns : goal.returns
 returns c =
     let t = c.args.tables.now in
     let apart : Some c.args.head ≡ c.args.tail → ⊥ = let f = c.if-eq.ensures in search (rules, f) in
-    let s = insts_front t c.requires.sound c.args.block c.args.head c.args.tail c.inst-node.result.next c.requires.on apart c.inst-node.ensures.next in
+    let s = insts_front t c.requires.sound c.args.block c.args.head c.args.tail c.inst_node.result.next c.requires.on apart c.inst_node.ensures.next in
     record { on = s.0; left = s.1 }

@@ -2,8 +2,8 @@ use Rattle.std.proofs.Common.{refl}
 use Rattle.listing.proofs.Walking.{insts_start}
 use Rattle.walks.proofs.Insts.spanning.Goals as goal
 
-pub invariant-of-result : goal.invariant-of-result
-invariant-of-result c = let t = c.args.tables.now in (c.requires.sound, ((insts_start t c.requires.sound c.args.block c.args.head c.args.tail c.requires.head c.requires.tail).0, tt))
+pub invariant_of-result : goal.invariant_of-result
+invariant_of-result c = let t = c.args.tables.now in record { sound = c.requires.sound; on = (insts_start t c.requires.sound c.args.block c.args.head c.args.tail c.requires.head c.requires.tail).0 }
 
 pub returns : goal.returns
 returns c =

@@ -4,4 +4,4 @@ use Rattle.std.proofs.iter.Next.{firm}
 use Rattle.std.proofs.Common.{rules}
 
 pub returns : goal.returns
-returns c = record { steps = c.next-back.ensures.gives; goes = firm (fewer_last c.next-back.result _ _ c.next-back.ensures.gives) (λ h. search rules) }
+returns c = record { steps = c.next_back.ensures.gives; goes = firm (fewer_last c.next_back.result _ _ c.next_back.ensures.gives) (λ h. search rules) }
