@@ -1,7 +1,7 @@
 -- What one changed link, and then an insertion or a removal, does to linked keys; over links as functions of keys, with no table.
 -- Assumes nothing.
-use Rattle.std.proofs.Common.{◌≡◌, List, [], ◌∷◌, ◌++◌, Some, None, Option, sym, refl, ap, ◌∙◌, subst}
-use Rattle.chain.specs.Chain.{head_or, last_or, Misses, Distinct, Disjoint, Linked}
+use Rattle.std.proofs.Common.{◌≡◌, List, [], ◌∷◌, ◌++◌, Some, None, Option, sym, refl, ◌∙◌}
+use Rattle.chain.specs.Chain.{head_or, last_or, Misses, Distinct, Linked}
 use Rattle.chain.proofs.Keys.{none_some, head_or-append, misses_left, misses_right, distinct_left, distinct_right, distinct_across, disjoint_sym, disjoint_tail, disjoint_head, last_misses, head_misses, last_not, head_not}
 
 -- the links a are kept, and the links b are changed at o alone, to l

@@ -1,13 +1,12 @@
 -- What an edit of the table does to the chains in it. Assumes nothing.
-use Rattle.std.proofs.Common.{◌≡◌, ℕ, zero, suc, ◌<◌, List, [], ◌∷◌, ◌++◌, length, Some, None, Option, sym, refl, ap, ◌∙◌, subst, append-nil, le_of_suc-le-suc, not-suc-le-zero}
-use lib.Seq.{append_snoc}
+use Rattle.std.proofs.Common.{◌≡◌, ℕ, zero, suc, ◌<◌, List, [], ◌∷◌, ◌++◌, length, Some, None, Option, sym, refl, ap, ◌∙◌, subst, le_of_suc-le-suc, not-suc-le-zero}
 use Rattle.chain.specs.declared.Ends.{Ends}
 use Rattle.chain.specs.Links.{Links}
 use Rattle.chain.specs.Table.{alter, alter_at, read_at, Within, if_none, inserted_table, inserted_ends, removed_table, removed_ends}
-use Rattle.chain.specs.Chain.{head_or, last_or, Misses, Distinct, Disjoint, AllWithin, Linked, Chain, Relinked, Inserts, Removes}
-use Rattle.chain.proofs.Keys.{none_some, some_inj, none_misses, last_or-append, misses_left, misses_right, distinct_left, distinct_right, distinct_across, distinct_both, disjoint_cons, disjoint_left, disjoint_right, last_misses, head_misses, disjoint_tail, disjoint_head, within_left, within_right, within_both, last_within, head_within}
+use Rattle.chain.specs.Chain.{head_or, last_or, Misses, AllWithin, Chain, Inserts, Removes}
+use Rattle.chain.proofs.Keys.{none_some, some_inj, last_or-append, misses_left, misses_right, distinct_left, distinct_right, distinct_across, distinct_both, disjoint_cons, disjoint_left, disjoint_right, last_misses, head_misses, disjoint_tail, within_left, within_right, within_both, last_within, head_within}
 use Rattle.chain.proofs.Walks.{chain_walked}
-use Rattle.chain.proofs.Chained.{Put, frame, insert_linked, remove_linked, remove_loose, split_right}
+use Rattle.chain.proofs.Chained.{Put, frame, insert_linked, remove_linked, remove_loose}
 
 -- ---- one node changed
 

@@ -1,5 +1,5 @@
 -- Lists of keys: ends, and which keys they miss. Assumes nothing.
-use Rattle.std.proofs.Common.{◌≡◌, ℕ, ◌<◌, List, [], ◌∷◌, ◌++◌, Some, None, Option, sym, refl, ap, ◌∙◌, subst, arith}
+use Rattle.std.proofs.Common.{◌≡◌, ℕ, List, [], ◌∷◌, ◌++◌, Some, None, Option, sym, refl, arith}
 use Rattle.chain.specs.Table.{Within}
 use Rattle.chain.specs.Chain.{head_or, last_or, Misses, Distinct, Disjoint, AllWithin}
 

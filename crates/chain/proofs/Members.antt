@@ -1,10 +1,10 @@
 -- Which keys a chain has, told from the links. Assumes nothing.
-use Rattle.std.proofs.Common.{◌≡◌, ℕ, zero, suc, List, [], ◌∷◌, ◌++◌, map, length, Some, None, Option, sym, refl, ap, ◌∙◌, subst}
+use Rattle.std.proofs.Common.{◌≡◌, ℕ, zero, suc, List, [], ◌∷◌, map, length, Some, None, Option, sym, refl, ap, ◌∙◌}
 use Rattle.chain.specs.Links.{Links}
 use Rattle.chain.specs.declared.Ends.{Ends}
 use Rattle.chain.specs.Table.{alter, alter_at, read_at, inserted_table, removed_table}
-use Rattle.chain.specs.Chain.{head_or, last_or, Misses, Linked, Chain}
-use Rattle.chain.proofs.Keys.{none_some, some_inj, misses_left, misses_right, misses_both, last_not, head_not}
+use Rattle.chain.specs.Chain.{head_or, Misses, Linked, Chain}
+use Rattle.chain.proofs.Keys.{none_some, some_inj, head_not}
 use Rattle.chain.proofs.Edits.{link_spared, read_kept, length-alter_at}
 
 -- behind another key each has a link back

@@ -1,5 +1,5 @@
 -- A walk along the links of a chain gives its keys. Assumes nothing.
-use Rattle.std.proofs.Common.{◌≡◌, ℕ, zero, suc, ◌+◌, ◌-◌, ◌<◌, ◌≤◌, List, [], ◌∷◌, ◌++◌, reverse, length, Some, None, Option, sym, refl, ap, ◌∙◌, subst, append_assoc, append-nil, add-suc, suc-add, zero-add, arith}
+use Rattle.std.proofs.Common.{◌≡◌, ℕ, zero, suc, ◌+◌, ◌-◌, ◌<◌, ◌≤◌, List, [], ◌∷◌, ◌++◌, reverse, length, Some, None, Option, sym, refl, ap, ◌∙◌, subst, append-nil, add-suc, suc-add, zero-add, arith}
 use mathlib.Core.List.{reverse-cons}
 use lib.Seq.{append_snoc}
 use Rattle.chain.specs.Chain.{head_or, last_or, Linked, walk, Gives, Chain, Walked, keys_from, AllWithin}

@@ -1,5 +1,5 @@
 -- Edits of a table of linked nodes, over what a node's links are. Assumes nothing.
-use Rattle.std.specs.Prelude.{◌≡◌, ℕ, zero, suc, ◌<◌, List, [], ◌∷◌, Some, None, Option}
+use Rattle.std.specs.Prelude.{ℕ, zero, suc, ◌<◌, List, [], ◌∷◌, Some, None, Option}
 use Rattle.chain.specs.declared.Ends.{Ends}
 use Rattle.chain.specs.Links.{Links}
 

@@ -1,5 +1,5 @@
 -- The two kinds of nodes: the places and links of their chains, and what else is read of them. Assumes nothing.
-use Rattle.std.specs.Prelude.{◌≡◌, ℕ, Bool, false, cond, List, map, Some, None, Option, nat_lt, refl}
+use Rattle.std.specs.Prelude.{ℕ, Bool, false, cond, List, map, Some, None, Option, nat_lt, refl}
 use Rattle.chain.specs.declared.Ends.{Ends}
 use Rattle.chain.specs.Links.{Links}
 use Rattle.chain.specs.Table.{read_at}

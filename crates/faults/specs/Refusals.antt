@@ -1,7 +1,5 @@
 -- How a call is refused: the one place where the numbers of the questions stand. Assumes nothing.
-use Rattle.std.specs.Prelude.{◌≡◌, ℕ, Some, None, Ok, Err, Option, Result}
-use Rattle.entities.specs.declared.Block.{Block}
-use Rattle.entities.specs.declared.Inst.{Inst}
+use Rattle.std.specs.Prelude.{◌≡◌, ℕ, Some, Ok, Err, Option, Result}
 use Rattle.entities.specs.declared.progpoint.ProgramPoint.{ProgramPoint}
 use Rattle.entities.specs.declared.progpoint.ProgramPoint.TheVariants.{Inst as inst_point, Block as block_point}
 use Rattle.faults.specs.declared.Layer.{Layer}

@@ -1,15 +1,15 @@
 -- What each call answers, and what becomes of the program. Assumes nothing.
-use Rattle.std.specs.Prelude.{◌≡◌, ℕ, List, [], Some, None, Option, Result}
+use Rattle.std.specs.Prelude.{◌≡◌, ℕ, Some, None, Option, Result}
 use Rattle.entities.specs.declared.Block.{Block}
 use Rattle.entities.specs.declared.Inst.{Inst}
 use Rattle.entities.specs.declared.progpoint.ProgramPoint.{ProgramPoint}
 use Rattle.entities.specs.declared.progpoint.Order.{Order}
 use Rattle.faults.specs.declared.LayoutFault.{LayoutFault}
-use Rattle.entities.specs.Program.{Program, Slot, append_block, mark_cold, with_lines}
+use Rattle.entities.specs.Program.{Program, append_block, mark_cold, with_lines}
 use Rattle.entities.specs.Points.{compared}
 use Rattle.entities.specs.Reading.{slots_of, point_block, point_seq}
 use Rattle.faults.specs.Refusals.{Refusal, Told, accepted, refused, told}
-use Rattle.faults.specs.Questions.{Question, first_no, append_block_asked, append_inst_asked, set_cold_asked, pp_block_asked, pp_cmp_asked}
+use Rattle.faults.specs.Questions.{first_no, append_block_asked, append_inst_asked, set_cold_asked, pp_block_asked, pp_cmp_asked}
 use Rattle.entities.specs.Numbering.{numbered_last, appended_inst}
 
 -- what a question answers, once it has passed its own questions

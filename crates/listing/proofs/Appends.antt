@@ -1,8 +1,7 @@
 -- An instruction linked in at the end of a block, and then numbered. Assumes nothing.
-use Rattle.std.proofs.Common.{◌≡◌, ℕ, ◌+◌, ◌<◌, ◌≤◌, Bool, true, false, ltb, List, [], ◌∷◌, ◌++◌, map, length, Some, None, Option, sym, refl, ap, ◌∙◌, subst, arith}
+use Rattle.std.proofs.Common.{◌≡◌, ℕ, ◌+◌, ◌<◌, Bool, true, false, ltb, List, [], ◌∷◌, ◌++◌, length, sym, refl, ap, ◌∙◌, subst, arith}
 use Rattle.chain.specs.Chain.{Chain}
 use Rattle.chain.specs.Table.{read_at}
-use Rattle.entities.specs.Lists.{ahead}
 use Rattle.entities.specs.Nodes.{block_links, block_place, ends_of, first_of, inst_links, inst_place, last_of, marks}
 use Rattle.entities.specs.Numbering.{appended_inst, last_number, numbered_at_end, numbered_last, seq_ceiling, tens}
 use Rattle.entities.specs.Program.{Line, Slot, blocks_of, in_block, insts_in, slot, with_slots}

@@ -1,7 +1,5 @@
 -- Edits of the block chain. Assumes nothing.
-use Rattle.std.proofs.Common.{◌≡◌, ℕ, ◌<◌, ◌⊎◌, List, [], ◌∷◌, ◌++◌, map, length, Some, None, Option, sym, refl, ap, ◌∙◌, subst, inl, inr, append-nil}
-use lib.Seq.{append_snoc}
-use Rattle.std.proofs.lemmas.Bool.{cases_eq}
+use Rattle.std.proofs.Common.{◌≡◌, ℕ, ◌<◌, List, [], ◌∷◌, ◌++◌, length, Some, None, Option, sym, refl, ap, ◌∙◌, subst, inl, inr, append-nil}
 use Rattle.chain.proofs.Chained.{split_right}
 use Rattle.chain.proofs.Keys.{distinct_right, head_not, head_within, last_not, last_within, misses_both, misses_left, misses_right, none_some, within_left, within_right}
 use Rattle.chain.proofs.Members.{inserted_away, inserted_keeps, inserted_map, length_inserted}

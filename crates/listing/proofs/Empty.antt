@@ -1,5 +1,5 @@
 -- Tables of nodes that hold nothing are lawful, and stand for the empty list. Assumes nothing.
-use Rattle.std.proofs.Common.{◌≡◌, ℕ, zero, suc, Bool, List, [], ◌∷◌, map, length, replicate, Some, None, Option, sym, refl, ap, ◌∙◌, subst}
+use Rattle.std.proofs.Common.{◌≡◌, ℕ, zero, suc, Bool, [], ◌∷◌, map, replicate, None, Option, sym, refl, ap, ◌∙◌, subst}
 use lib.ListN.{length-replicate}
 use Rattle.chain.specs.Table.{read_at}
 use Rattle.entities.specs.Nodes.{block_links, block_named, first_of, inst_links, last_of, no_inst, only_mark}

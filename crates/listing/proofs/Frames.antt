@@ -1,5 +1,5 @@
 -- What an edit leaves: one lemma for edits of the block chain, one for edits of instruction chains. Assumes nothing.
-use Rattle.std.proofs.Common.{◌≡◌, ℕ, ◌<◌, ◌⊎◌, List, [], ◌∷◌, ◌++◌, map, length, Some, None, Option, sym, refl, ap, ◌∙◌, subst, inl, inr}
+use Rattle.std.proofs.Common.{◌≡◌, ◌⊎◌, List, [], ◌∷◌, ◌++◌, length, Some, None, Option, sym, ap, ◌∙◌, subst, inl, inr}
 use Rattle.chain.proofs.Chained.{frame}
 use Rattle.chain.proofs.Keys.{disjoint_left, disjoint_nil, disjoint_right, disjoint_sym, distinct_across, distinct_right, misses_both, misses_left, misses_right, none_misses, some_inj}
 use Rattle.chain.specs.Chain.{AllWithin, Chain, Disjoint, Distinct, Linked, Misses}

@@ -1,6 +1,5 @@
 -- Edits of one block's instruction chain. Assumes nothing.
-use Rattle.std.proofs.Common.{◌≡◌, ℕ, ◌<◌, ◌⊎◌, List, [], ◌∷◌, ◌++◌, map, length, Some, None, Option, sym, refl, ap, ◌∙◌, subst, inl, inr, append-nil}
-use Rattle.std.proofs.lemmas.Bool.{cases_eq}
+use Rattle.std.proofs.Common.{◌≡◌, ℕ, ◌<◌, ◌⊎◌, List, [], ◌∷◌, ◌++◌, length, Some, None, Option, sym, refl, ap, ◌∙◌, subst, inl, inr, append-nil}
 use Rattle.chain.proofs.Chained.{frame}
 use Rattle.chain.proofs.Edits.{length-alter, read_here, read_kept, read_other}
 use Rattle.chain.proofs.Keys.{disjoint_head, distinct_across, distinct_right, head_not, last_not, misses_both, misses_left, misses_right, none_misses, none_some, within_right}

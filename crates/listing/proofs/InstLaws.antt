@@ -1,5 +1,5 @@
 -- The edits of instruction chains, from what the calls in their bodies give. Assumes nothing.
-use Rattle.std.proofs.Common.{◌≡◌, ℕ, zero, suc, ◌<◌, List, [], ◌∷◌, ◌++◌, map, length, Some, None, Option, sym, refl, ap, ◌∙◌, subst, append-nil, le_of_suc-le-suc, not-suc-le-zero}
+use Rattle.std.proofs.Common.{◌≡◌, ℕ, zero, suc, ◌<◌, List, [], ◌∷◌, ◌++◌, length, Some, None, sym, refl, ap, ◌∙◌, subst, append-nil, le_of_suc-le-suc, not-suc-le-zero}
 use Rattle.chain.proofs.Keys.{misses_left, misses_right}
 use Rattle.chain.proofs.Members.{inserted_keeps}
 use Rattle.chain.proofs.Walks.{last_in}

@@ -1,5 +1,5 @@
 -- From what is written in the tables to the program that they then hold. Assumes nothing.
-use Rattle.std.proofs.Common.{◌≡◌, ℕ, ◌<◌, true, false, List, [], ◌∷◌, ◌++◌, length, replicate, Some, None, Option, sym, refl, ap, ◌∙◌, subst}
+use Rattle.std.proofs.Common.{◌≡◌, ◌<◌, true, false, List, [], length, replicate, Some, None, sym, refl, ap, ◌∙◌, subst}
 use Rattle.chain.specs.Chain.{Inserts}
 use Rattle.chain.specs.Table.{alter, inserted_table}
 use Rattle.chain.specs.declared.Ends.{Ends}

@@ -1,5 +1,5 @@
 -- A cold mark written: the list stays. Assumes nothing.
-use Rattle.std.proofs.Common.{◌≡◌, ℕ, zero, suc, Bool, List, [], ◌∷◌, map, length, set, Some, None, Option, sym, refl, ap, ◌∙◌, subst}
+use Rattle.std.proofs.Common.{◌≡◌, ℕ, zero, suc, Bool, List, [], ◌∷◌, length, set, None, sym, refl, ap, ◌∙◌, subst}
 use Rattle.chain.proofs.Chained.{frame}
 use Rattle.chain.proofs.Edits.{length-alter, read_kept}
 use Rattle.chain.proofs.Keys.{none_misses}

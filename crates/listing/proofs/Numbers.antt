@@ -1,5 +1,5 @@
 -- New numbers in one line. Assumes nothing.
-use Rattle.std.proofs.Common.{◌≡◌, ℕ, ◌<◌, ◌⊎◌, List, [], ◌∷◌, ◌++◌, map, length, Some, None, Option, sym, refl, ap, ◌∙◌, subst, inl, inr, append-nil, arith}
+use Rattle.std.proofs.Common.{◌≡◌, ℕ, List, [], ◌∷◌, ◌++◌, Some, None, sym, refl, ap, ◌∙◌, subst, inr, append-nil, arith}
 use Rattle.chain.proofs.Chained.{frame}
 use Rattle.chain.proofs.Keys.{none_misses}
 use Rattle.chain.specs.Chain.{AllWithin, Chain, Misses}

@@ -1,5 +1,5 @@
 -- Reads and writes of a node's parts. Assumes nothing.
-use Rattle.std.proofs.Common.{◌≡◌, ℕ, zero, suc, ◌<◌, List, [], ◌∷◌, length, get_or, set, Some, None, Option, sym, refl, ap, ◌∙◌}
+use Rattle.std.proofs.Common.{◌≡◌, ℕ, zero, suc, ◌<◌, List, [], ◌∷◌, length, get_or, set, Option, sym, refl, ap, ◌∙◌}
 use Rattle.chain.proofs.Writes.{read_is, written}
 use Rattle.chain.specs.Table.{alter, read_at}
 use Rattle.entities.specs.Nodes.{ends_of, first_of, last_of}

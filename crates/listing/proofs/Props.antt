@@ -1,7 +1,7 @@
 -- That tables are lawful has one proof at most. Assumes nothing.
-use Rattle.std.proofs.Common.{◌≡◌, ℕ, ◌<◌, ◌⊎◌, List, [], ◌∷◌, length, Option, sym, refl, ap, ◌∙◌, subst, inl, inr}
+use Rattle.std.proofs.Common.{ℕ, List, [], ◌∷◌, Option, refl, inl, inr}
 use mathlib.Core.Logic.{∥∥₁_elim}
-use mathlib.Core.HLevel.{hedberg, Π_prop, ×_prop}
+use mathlib.Core.HLevel.{hedberg}
 use native.Mathlib.Bridge.{le_prop}
 use Rattle.std.proofs.lemmas.Bool.{cases_eq}
 use Rattle.chain.proofs.Props.{chain_prop, keys_set}

@@ -1,5 +1,5 @@
 -- Which edits of the list leave the numbers rising. Assumes nothing.
-use Rattle.std.proofs.Common.{◌≡◌, ℕ, ◌<◌, ◌≤◌, Bool, true, false, eqb, List, [], ◌∷◌, ◌++◌, map, sym, refl, ap, ◌∙◌, subst, arith}
+use Rattle.std.proofs.Common.{◌≡◌, ℕ, Bool, true, false, eqb, List, [], ◌∷◌, ◌++◌, sym, ap, ◌∙◌, subst}
 use Rattle.entities.specs.Nodes.{marks}
 use Rattle.entities.specs.Program.{Line, Program, append_block, chosen, empty_line, instead, line_number}
 use Rattle.entities.specs.declared.Block.{Block}

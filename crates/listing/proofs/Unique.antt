@@ -1,5 +1,5 @@
 -- Tables stand for one list at most: the one that the links give. Assumes nothing.
-use Rattle.std.proofs.Common.{◌≡◌, ℕ, List, [], ◌∷◌, map, Some, None, Option, sym, refl, ap, ◌∙◌, subst}
+use Rattle.std.proofs.Common.{◌≡◌, List, [], ◌∷◌, map, sym, refl, ap, ◌∙◌, subst}
 use Rattle.chain.proofs.Walks.{chain_keys}
 use Rattle.entities.specs.Program.{Line, Slot, blocks_of, insts_in}
 use Rattle.entities.specs.declared.Block.{Block}

@@ -1,5 +1,5 @@
 -- What an edit of the tables did, and the parts of the tables that it writes. Assumes nothing.
-use Rattle.std.specs.Prelude.{◌≡◌, ℕ, ◌<◌, List, [], ◌∷◌, ◌++◌, Some, None, Option}
+use Rattle.std.specs.Prelude.{◌≡◌, ℕ, List, [], ◌∷◌, ◌++◌, Some, Option}
 use Rattle.chain.specs.Chain.{Misses}
 use Rattle.chain.specs.Table.{alter}
 use Rattle.chain.specs.declared.Ends.{Ends}

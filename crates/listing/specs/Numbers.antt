@@ -1,5 +1,5 @@
 -- Numbers written into nodes that stand in a chain. Assumes nothing.
-use Rattle.std.specs.Prelude.{◌≡◌, ℕ, ◌≤◌, List, [], ◌∷◌, ◌++◌, length, Some, None, Option}
+use Rattle.std.specs.Prelude.{◌≡◌, ◌≤◌, List, [], ◌∷◌, ◌++◌, length, Some, Option}
 use Rattle.chain.specs.Table.{read_at}
 use Rattle.chain.specs.Chain.{Chain, Misses}
 use Rattle.entities.specs.declared.Inst.{Inst}

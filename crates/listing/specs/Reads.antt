@@ -1,5 +1,5 @@
 -- What a node read from the tables says of the program. Assumes nothing.
-use Rattle.std.specs.Prelude.{◌≡◌, Bool, true, false, is_some, Some, None, Option, ◌≢◌}
+use Rattle.std.specs.Prelude.{◌≡◌, true, false, is_some, Some, ◌≢◌}
 use Rattle.entities.specs.declared.Block.{Block}
 use Rattle.entities.specs.declared.Inst.{Inst}
 use Rattle.entities.specs.declared.nodes.BlockNode.{BlockNode}

@@ -1,5 +1,5 @@
 -- A step of a walk leaves less. Assumes nothing.
-use Rattle.std.proofs.Common.{◌≡◌, ◌<◌, List, [], ◌∷◌, ◌++◌, length, IfSome, Some, None, Option, ap, arith, length-append}
+use Rattle.std.proofs.Common.{◌<◌, List, length, IfSome, Some, None, Option, ap, arith, length-append}
 use Rattle.walks.specs.Walks.{GivesFirst, GivesLast}
 
 module _ {K : Type 0} where

@@ -1,10 +1,8 @@
-use Rattle.std.proofs.Common.{◌≡◌, length, None, sym, refl, ap, ◌∙◌, subst}
+use Rattle.std.proofs.Common.{length, sym, subst}
 use Rattle.chain.specs.declared.Ends.{Ends}
-use Rattle.chain.specs.Chain.{Inserts}
-use Rattle.chain.specs.Table.{Within, inserted_table}
+use Rattle.chain.specs.Table.{Within}
 use Rattle.entities.specs.declared.Block.{Block}
-use Rattle.entities.specs.Nodes.{block_place, block_links}
-use Rattle.listing.specs.Lawful.{listed}
+use Rattle.entities.specs.Nodes.{block_place}
 use Rattle.listing.proofs.Props.{sound_out}
 use Rattle.listing.proofs.BlockEdits.{fits, last_fits}
 use Rattle.listing.proofs.Landed.{block_appended}

@@ -1,4 +1,4 @@
-use Rattle.std.proofs.Common.{◌≡◌, ◌<◌, length, sym, refl, ap, ◌∙◌, subst}
+use Rattle.std.proofs.Common.{◌<◌, length, sym, subst}
 use Rattle.chain.specs.declared.Ends.{Ends}
 use Rattle.chain.specs.Table.{Within}
 use Rattle.entities.specs.declared.Inst.{Inst}

@@ -1,10 +1,8 @@
-use Rattle.std.proofs.Common.{◌≡◌, [], ◌∷◌, ◌++◌, Option, sym, refl, ap, ◌∙◌, subst}
+use Rattle.std.proofs.Common.{[], ◌∷◌, ◌++◌, Option, sym, refl, ap, ◌∙◌, subst}
 use Rattle.chain.specs.declared.Ends.{Ends}
 use Rattle.entities.specs.declared.Inst.{Inst}
-use Rattle.entities.specs.Nodes.{first_of}
-use Rattle.entities.specs.Program.{Slot, insts_in}
+use Rattle.entities.specs.Program.{insts_in}
 use Rattle.entities.specs.Numbering.{numbered_last}
-use Rattle.chain.specs.Table.{read_at}
 use Rattle.listing.specs.Numbers.{Run, SomeRunTo}
 use Rattle.listing.proofs.Props.{sound_out}
 use Rattle.listing.proofs.Landed.{block_stands, still_low}
