@@ -7,9 +7,9 @@ ghost use Rattle.listing.specs.Lawful.{Sound};
 use entities::nodes::Tables;
 
 mod edits;
-mod points;
+mod iteration;
+mod program_points;
 mod questions;
-mod walks;
 
 /// A dispatch program's blocks and instructions in order, over tables of fixed size.
 #[derive(Drop)]
