@@ -4,7 +4,7 @@ use Rattle.entities.specs.declared.Block.{Block}
 use Rattle.entities.specs.declared.Inst.{Inst}
 use Rattle.entities.specs.declared.progpoint.ProgramPoint.{ProgramPoint}
 use Rattle.entities.specs.declared.progpoint.ProgramPoint.TheVariants.{Inst as inst_point, Block as block_point}
-use Rattle.faults.specs.declared.Entity.TheVariants.{Block as TheBlock, Inst as the_inst}
+use Rattle.faults.specs.declared.Entity.TheVariants.{Block as the_block, Inst as the_inst}
 use Rattle.faults.specs.declared.LayoutFault.{LayoutFault}
 use Rattle.faults.specs.declared.LayoutFault.TheVariants.{OutOfRange, NotInserted, AlreadyInserted, DifferentBlocks}
 use Rattle.entities.specs.Program.{Program}
@@ -53,20 +53,20 @@ same_block a b p = same_option (point_block a p) (point_block b p)
 
 abbrev pub append_block_asked : Block → Program → List Question
 append_block_asked b p =
-    ask (in_range_block b) (OutOfRange (TheBlock b))
-    ∷ ask (not (inserted_block b p)) (AlreadyInserted (TheBlock b))
+    ask (in_range_block b) (OutOfRange (the_block b))
+    ∷ ask (not (inserted_block b p)) (AlreadyInserted (the_block b))
     ∷ []
 
 abbrev pub append_inst_asked : Inst → Block → Program → List Question
 append_inst_asked i b p =
     ask (in_range_inst i) (OutOfRange (the_inst i))
-    ∷ ask (in_range_block b) (OutOfRange (TheBlock b))
-    ∷ ask (inserted_block b p) (NotInserted (TheBlock b))
+    ∷ ask (in_range_block b) (OutOfRange (the_block b))
+    ∷ ask (inserted_block b p) (NotInserted (the_block b))
     ∷ ask (not (inserted_inst i p)) (AlreadyInserted (the_inst i))
     ∷ []
 
 abbrev pub set_cold_asked : Block → List Question
-set_cold_asked b = ask (in_range_block b) (OutOfRange (TheBlock b)) ∷ []
+set_cold_asked b = ask (in_range_block b) (OutOfRange (the_block b)) ∷ []
 
 abbrev pub pp_block_asked : ProgramPoint → Program → List Question
 pp_block_asked a p =

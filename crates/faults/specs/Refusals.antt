@@ -5,7 +5,7 @@ use Rattle.entities.specs.declared.progpoint.ProgramPoint.TheVariants.{Inst as i
 use Rattle.faults.specs.declared.Layer.{Layer}
 use Rattle.faults.specs.declared.Layer.TheVariants.{Layout as by_layout}
 use Rattle.faults.specs.declared.Entity.{Entity}
-use Rattle.faults.specs.declared.Entity.TheVariants.{Block as TheBlock, Inst as the_inst}
+use Rattle.faults.specs.declared.Entity.TheVariants.{Block as the_block, Inst as the_inst}
 use Rattle.faults.specs.declared.LayoutFault.{LayoutFault}
 use Rattle.faults.specs.declared.LayoutFault.TheVariants.{OutOfRange, NotInserted, AlreadyInserted, DifferentBlocks}
 
@@ -24,7 +24,7 @@ refusal_of (DifferentBlocks e) = record { number = 9; layer = by_layout; entity 
 -- a point as the thing at fault
 abbrev pub entity_at : ProgramPoint → Entity
 entity_at (inst_point i) = the_inst i
-entity_at (block_point b) = TheBlock b
+entity_at (block_point b) = the_block b
 
 -- what a call tells: what it answers, or how it is refused
 pub data Told (A : Type 0) : Type 0 where
