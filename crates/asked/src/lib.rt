@@ -12,6 +12,8 @@ use entities::nodes::Tables;
 use entities::{BLOCK_CAPACITY, Block, INST_CAPACITY, Inst};
 use faults::{Entity, LayoutFault};
 
+pub mod placed;
+
 /// The first no to appending `block`.
 pub fn append_block(tables: &Tables, block: Block) -> Option<LayoutFault>
     requires { Sound tables.now }

@@ -2,11 +2,11 @@
 use Rattle.std.proofs.Common.{◌≡◌, ℕ, zero, suc, ◌<◌, List, [], ◌∷◌, ◌++◌, length, Some, None, Option, sym, refl, ap, ◌∙◌, subst, le_of_suc-le-suc, not-suc-le-zero}
 use Rattle.chain.specs.declared.Ends.{Ends}
 use Rattle.chain.specs.Links.{Links}
-use Rattle.chain.specs.Table.{alter, alter_at, read_at, Within, if_none, inserted_table, inserted_ends, removed_table, removed_ends}
-use Rattle.chain.specs.Chain.{head_or, last_or, Misses, AllWithin, Chain, Inserts, Removes}
-use Rattle.chain.proofs.Keys.{none_some, some_inj, last_or-append, misses_left, misses_right, distinct_left, distinct_right, distinct_across, distinct_both, disjoint_cons, disjoint_left, disjoint_right, last_misses, head_misses, disjoint_tail, within_left, within_right, within_both, last_within, head_within}
+use Rattle.chain.specs.Table.{alter, alter_at, read_at, Within, if_none, inserted_table, inserted_ends, removed_table, removed_ends, cut_table}
+use Rattle.chain.specs.Chain.{head_or, last_or, Misses, AllWithin, Chain, Parted, Inserts, Removes, Cuts}
+use Rattle.chain.proofs.Keys.{none_some, some_inj, last_or-append, misses_left, misses_right, distinct_left, distinct_right, distinct_across, distinct_both, disjoint_cons, disjoint_left, disjoint_right, last_misses, head_misses, disjoint_tail, disjoint_head, within_left, within_right, within_both, last_within, head_within}
 use Rattle.chain.proofs.Walks.{chain_walked}
-use Rattle.chain.proofs.Chained.{Put, frame, insert_linked, remove_linked, remove_loose}
+use Rattle.chain.proofs.Chained.{Put, frame, insert_linked, remove_linked, remove_loose, split_left, split_right, spare_next, spare_prev, relast, rehead}
 
 -- ---- one node changed
 
@@ -214,3 +214,53 @@ module _ {N K : Type 0} {place : K → ℕ} (apart : (a b : K) → place a ≡ p
         subst (λ u. read_at links.prev_of u (place k) ≡ None) (sym table) loose.0,
         subst (λ u. read_at links.next_of u (place k) ≡ None) (sym table) loose.1,
       )
+
+  -- ---- a cut
+
+  cut_spares : (t : List N) (p : Option K) (k : K) (e : Ends K) (ls : List K) → Misses (Some k) ls → Misses p ls → Chain place links t e ls → Chain place links (cut_table place links t p k) e ls
+  cut_spares t p k e ls mk mp c =
+      let go = spared apart links in
+      go _ _ (Some k) e ls mk (go _ _ p e ls mp c)
+
+  cut_chains : (t : List N) (k : K) (e : Ends K) (xs ys : List K) → Chain place links t e (xs ++ (k ∷ ys)) → Parted place links t xs k ys e.last (cut_table place links t (last_or None xs) k)
+  cut_chains t k e xs ys c =
+      let p : Option K = last_or None xs in
+      let on : N → N = λ m. links.with_next m None in
+      let back : N → N = λ m. links.with_prev m None in
+      let t1 : List N = alter_at place t p on in
+      let t2 : List N = cut_table place links t p k in
+      let ax = within_left place (length t) xs (k ∷ ys) c.within in
+      let aky = within_right place (length t) xs (k ∷ ys) c.within in
+      let u1 = put_next t p None (last_within place (length t) xs ax) in
+      let u2 = put_prev t1 (Some k) None (within_after place on t p (Some k) aky.0) in
+      let prv : K → Option K = λ q. read_at links.prev_of t (place q) in
+      let nxt : K → Option K = λ q. read_at links.next_of t (place q) in
+      let across = distinct_across xs (k ∷ ys) c.distinct in
+      let dky = distinct_right xs (k ∷ ys) c.distinct in
+      let keep = all_within_after place in
+      let one : Chain place links t2 (record { first = head_or xs None; last = p }) xs = record {
+        first = refl;
+        last = refl;
+        linked = spare_prev u2 None xs None (disjoint_head xs k ys across) (relast None xs (Some k) None u1 (distinct_left xs (k ∷ ys) c.distinct) (split_left prv nxt None xs (k ∷ ys) None c.linked));
+        distinct = distinct_left xs (k ∷ ys) c.distinct;
+        within = keep back t1 (Some k) xs (keep on t p xs ax);
+      } in
+      let two : Chain place links t2 (record { first = Some k; last = e.last }) (k ∷ ys) = record {
+        first = refl;
+        last = c.last ∙ last_or-append None xs (k ∷ ys);
+        linked = rehead p (k ∷ ys) None None u2 dky (spare_next u1 p (k ∷ ys) None (last_misses xs (k ∷ ys) across) (split_right prv nxt None xs (k ∷ ys) None c.linked));
+        distinct = dky;
+        within = keep back t1 (Some k) (k ∷ ys) (keep on t p (k ∷ ys) aky);
+      } in
+      record {
+        ahead = one;
+        behind = two;
+        ahead_walked = chain_walked one;
+        behind_walked = chain_walked two;
+        others = λ d ls other far. cut_spares t p k d ls (disjoint_right xs (k ∷ ys) ls far).0 (last_misses xs ls (disjoint_left xs (k ∷ ys) ls far)) other;
+      }
+
+  pub cuts : (t : List N) (k : K) (p : Option K) (t' : List N) → p ≡ read_at links.prev_of t (place k) → t' ≡ cut_table place links t p k → Cuts place links t k t'
+  cuts t k p t' ep a e xs ys c =
+      let at = (split_right (λ q. read_at links.prev_of t (place q)) (λ q. read_at links.next_of t (place q)) None xs (k ∷ ys) None c.linked).0 in
+      subst (λ u. Parted place links t xs k ys e.last u) (sym (a ∙ ap (λ o. cut_table place links t o k) (ep ∙ at))) (cut_chains t k e xs ys c)

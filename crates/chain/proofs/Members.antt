@@ -2,7 +2,7 @@
 use Rattle.std.proofs.Common.{◌≡◌, ℕ, zero, suc, List, [], ◌∷◌, map, length, Some, None, Option, sym, refl, ap, ◌∙◌}
 use Rattle.chain.specs.Links.{Links}
 use Rattle.chain.specs.declared.Ends.{Ends}
-use Rattle.chain.specs.Table.{alter, alter_at, read_at, inserted_table, removed_table}
+use Rattle.chain.specs.Table.{alter, alter_at, read_at, inserted_table, removed_table, cut_table}
 use Rattle.chain.specs.Chain.{head_or, Misses, Linked, Chain}
 use Rattle.chain.proofs.Keys.{none_some, some_inj, head_not}
 use Rattle.chain.proofs.Edits.{link_spared, read_kept, length-alter_at}
@@ -39,6 +39,9 @@ module _ {N K : Type 0} {place : K → ℕ} (apart : (a b : K) → place a ≡ p
   removed_away =
       link_spared apart link _ _ n x hn ∙ link_spared apart link _ _ p x hp ∙ link_spared apart link _ _ (Some k) x hk ∙ link_spared apart link _ t (Some k) x hk
 
+pub cut_away : {N K : Type 0} {place : K → ℕ} (apart : (a b : K) → place a ≡ place b → a ≡ b) (links : Links N K) {A : Type 0} (link : N → Option A) (t : List N) (p : Option K) (k x : K) → (p ≡ Some x → ⊥) → (Some k ≡ Some x → ⊥) → read_at link (cut_table place links t p k) (place x) ≡ read_at link t (place x)
+cut_away apart links link t p k x hp hk = link_spared apart link _ _ (Some k) x hk ∙ link_spared apart link _ t p x hp
+
 -- a reading that neither link changes stays at every node
 module _ {N K : Type 0} (place : K → ℕ) (links : Links N K) {A : Type 0} (link : N → Option A) (a : (n : N) (l : Option K) → link (links.with_prev n l) ≡ link n) (b : (n : N) (l : Option K) → link (links.with_next n l) ≡ link n) where
   kept_at : (f : N → N) → ((n : N) → link (f n) ≡ link n) → (t : List N) (o : Option K) (j : ℕ) → read_at link (alter_at place t o f) j ≡ read_at link t j
@@ -52,6 +55,9 @@ module _ {N K : Type 0} (place : K → ℕ) (links : Links N K) {A : Type 0} (li
   pub removed_keeps : (t : List N) (p n : Option K) (k : K) (j : ℕ) → read_at link (removed_table place links t p n k) j ≡ read_at link t j
   removed_keeps t p n k j =
       kept_at _ (λ m. a m p) _ n j ∙ kept_at _ (λ m. b m n) _ p j ∙ kept_at _ (λ m. b m None) _ (Some k) j ∙ kept_at _ (λ m. a m None) t (Some k) j
+
+  pub cut_keeps : (t : List N) (p : Option K) (k : K) (j : ℕ) → read_at link (cut_table place links t p k) j ≡ read_at link t j
+  cut_keeps t p k j = kept_at _ (λ m. a m None) _ (Some k) j ∙ kept_at _ (λ m. b m None) t p j
 
 -- the same of a field, over the whole table
 module _ {N K A : Type 0} (place : K → ℕ) (links : Links N K) (field : N → A) (a : (n : N) (l : Option K) → field (links.with_prev n l) ≡ field n) (b : (n : N) (l : Option K) → field (links.with_next n l) ≡ field n) where
@@ -73,3 +79,6 @@ module _ {N K : Type 0} (place : K → ℕ) (links : Links N K) (t : List N) (p 
 
   pub length_removed : length (removed_table place links t p n k) ≡ length t
   length_removed = length-alter_at place _ _ n ∙ length-alter_at place _ _ p ∙ length-alter_at place _ _ (Some k) ∙ length-alter_at place _ t (Some k)
+
+pub length_cut : {N K : Type 0} (place : K → ℕ) (links : Links N K) (t : List N) (p : Option K) (k : K) → length (cut_table place links t p k) ≡ length t
+length_cut place links t p k = length-alter_at place _ _ (Some k) ∙ length-alter_at place _ t p

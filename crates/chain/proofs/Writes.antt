@@ -35,6 +35,10 @@ four_writes place links t t1 t2 t3 t4 k p n a b c d e1 e2 e3 e4 =
     let f3 = e3 ∙ ap (λ u. alter_at place u p (λ m. links.with_next m c)) (e2 ∙ ap (λ u. alter_at place u (Some k) (λ m. links.with_next m b)) e1) in
     e4 ∙ ap (λ u. alter_at place u n (λ m. links.with_prev m d)) f3
 
+-- two links written in turn: the next of p, then the previous of k
+pub two_writes : {N K : Type 0} (place : K → ℕ) (links : Links N K) (t t1 t2 : List N) (k : K) (p a b : Option K) → t1 ≡ alter_at place t p (λ m. links.with_next m a) → t2 ≡ alter_at place t1 (Some k) (λ m. links.with_prev m b) → t2 ≡ alter_at place (alter_at place t p (λ m. links.with_next m a)) (Some k) (λ m. links.with_prev m b)
+two_writes place links t t1 t2 k p a b e1 e2 = e2 ∙ ap (λ u. alter_at place u (Some k) (λ m. links.with_prev m b)) e1
+
 pub ends_are : {K : Type 0} (a b c d : Option K) → a ≡ c → b ≡ d → ◌≡◌ {A = Ends K} (record { first = a; last = b }) (record { first = c; last = d })
 ends_are {K} a b c d e f = ap (λ o. both o b) e ∙ ap (λ o. both c o) f
   where

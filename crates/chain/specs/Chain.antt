@@ -80,6 +80,20 @@ module _ {N K : Type 0} (place : K → ℕ) (links : Links N K) (t : List N) (e 
   Removes t' e' =
       (xs ys : List K) → p ≡ last_or None xs → s ≡ head_or ys None → Chain place links t e (xs ++ (k ∷ ys)) → Relinked place links t (xs ++ (k ∷ ys)) k t' e' (xs ++ ys) × (read_at links.prev_of t' (place k) ≡ None) × (read_at links.next_of t' (place k) ≡ None)
 
+-- the chain xs ++ (k ∷ ys), whose last key is `last`, is parted ahead of k into two chains, which can be walked both ways; every chain
+-- that has no key of it is left
+pub record Parted {N K : Type 0} (place : K → ℕ) (links : Links N K) (t : List N) (xs : List K) (k : K) (ys : List K) (last : Option K) (t' : List N) : Type 0 where
+  pub ahead : Chain place links t' (record { first = head_or xs None; last = last_or None xs }) xs
+  pub behind : Chain place links t' (record { first = Some k; last = last }) (k ∷ ys)
+  pub ahead_walked : Walked place links t' (record { first = head_or xs None; last = last_or None xs }) xs
+  pub behind_walked : Walked place links t' (record { first = Some k; last = last }) (k ∷ ys)
+  pub others : (d : Ends K) (ls : List K) → Chain place links t d ls → Disjoint (xs ++ (k ∷ ys)) ls → Chain place links t' d ls
+
+-- whatever chain k stands in is parted ahead of k
+abbrev pub Cuts : {N K : Type 0} → (K → ℕ) → Links N K → List N → K → List N → Type 0
+Cuts {N} {K} place links t k t' =
+    (e : Ends K) (xs ys : List K) → Chain place links t e (xs ++ (k ∷ ys)) → Parted place links t xs k ys e.last t'
+
 -- the keys that come from `first` on, by the links of the table to the next: no more than it has places
 abbrev pub keys_from : {N K : Type 0} → (K → ℕ) → Links N K → List N → Option K → List K
 keys_from place links t first = walk (λ k. read_at links.next_of t (place k)) (length t) first

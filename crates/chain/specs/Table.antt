@@ -50,3 +50,9 @@ removed_table place links t p n k =
 
 abbrev pub removed_ends : {K : Type 0} → Ends K → Option K → Option K → Ends K
 removed_ends e p n = record { first = if_none p n e.first; last = if_none n p e.last }
+
+-- the chain parted ahead of key k, which p is directly ahead of
+abbrev pub cut_table : {N K : Type 0} → (K → ℕ) → Links N K → List N → Option K → K → List N
+cut_table place links t p k =
+    let t1 = alter_at place t p (λ m. links.with_next m None) in
+    alter_at place t1 (Some k) (λ m. links.with_prev m None)

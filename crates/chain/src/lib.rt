@@ -6,8 +6,8 @@
 
 ghost use Rattle.std.specs.Prelude.{◌≡◌, ℕ, ◌<◌, length, Some, None};
 ghost use Rattle.chain.specs.Links.{Links};
-ghost use Rattle.chain.specs.Chain.{Inserts, Removes};
-ghost use Rattle.chain.specs.Table.{alter_at, read_at, if_none, Within, inserted_table, inserted_ends, removed_table, removed_ends};
+ghost use Rattle.chain.specs.Chain.{Inserts, Removes, Cuts};
+ghost use Rattle.chain.specs.Table.{alter_at, read_at, if_none, Within, inserted_table, inserted_ends, removed_table, removed_ends, cut_table};
 
 /// The number by which a table names its nodes.
 pub trait Key: Copy {
@@ -110,6 +110,19 @@ pub fn remove<N: LinkedNode>(nodes: &mut [N], ends: Ends<N::Key>, key: N::Key) -
     take_between(nodes, ends, prev, next, key)
 }
 
+/// Parts the chain directly ahead of `key`, and gives the key that was ahead of it.
+pub fn cut<N: LinkedNode>(nodes: &mut [N], key: N::Key) -> Option<N::Key>
+    requires key { N.Key.place key < length nodes.old }
+    requires prev { Within N.Key.place (length nodes.old) (read_at N.links.prev_of nodes.old (N.Key.place key)) }
+    ensures prev { result ≡ read_at N.links.prev_of nodes.old (N.Key.place key) }
+    ensures table { nodes.new ≡ cut_table N.Key.place N.links nodes.old (read_at N.links.prev_of nodes.old (N.Key.place key)) key }
+    ensures chain { Cuts N.Key.place N.links nodes.old key nodes.new }
+{
+    let prev = prev_of(nodes, key);
+    cut_between(nodes, prev, key);
+    prev
+}
+
 // Puts `key` between `prev` and `next`, either of which may be absent.
 fn put_between<N: LinkedNode>(
     nodes: &mut [N],
@@ -144,6 +157,18 @@ fn take_between<N: LinkedNode>(
     ensures chain { Removes N.Key.place N.links nodes.old ends key prev next nodes.new result }
 {
     unlink_between(nodes, ends, prev, next, key)
+}
+
+// Parts `prev`, which may be absent, from `key`, which it is directly ahead of.
+fn cut_between<N: LinkedNode>(nodes: &mut [N], prev: Option<N::Key>, key: N::Key)
+    requires key { N.Key.place key < length nodes.old }
+    requires prev { Within N.Key.place (length nodes.old) prev }
+    requires ahead { prev ≡ read_at N.links.prev_of nodes.old (N.Key.place key) }
+    ensures table { nodes.new ≡ cut_table N.Key.place N.links nodes.old prev key }
+    ensures chain { Cuts N.Key.place N.links nodes.old key nodes.new }
+{
+    link_next(nodes, prev, None);
+    link_prev(nodes, Some(key), None);
 }
 
 // Links `key` in between `prev` and `next`, either of which may be absent.

@@ -4,3 +4,4 @@ pub mod Program
 pub mod Points
 pub mod Reading
 pub mod Numbering
+pub mod Laws

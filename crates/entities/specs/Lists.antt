@@ -7,6 +7,16 @@ abbrev pub of_first : {A B : Type 0} → (A → Bool) → (A → B) → B → Li
 of_first test f o [] = o
 of_first test f o (x ∷ xs) = cond (test x) (f x) (of_first test f o xs)
 
+-- what stands ahead of the first that passes the test; all where none does
+abbrev pub ahead_of : {A : Type 0} → (A → Bool) → List A → List A
+ahead_of test [] = []
+ahead_of test (x ∷ xs) = cond (test x) [] (x ∷ ahead_of test xs)
+
+-- what stands from the first that passes the test on; nothing where none does
+abbrev pub from_on : {A : Type 0} → (A → Bool) → List A → List A
+from_on test [] = []
+from_on test (x ∷ xs) = cond (test x) (x ∷ xs) (from_on test xs)
+
 -- does k stand in the list?
 abbrev pub holds : {K : Type 0} → (K → ℕ) → K → List K → Bool
 holds place k [] = false

@@ -3,6 +3,8 @@
 use Rattle.std.specs.Prelude.{ℕ, Bool, true, false, List, [], ◌∷◌, ◌++◌, map, replicate, ◌==◌, slice_set}
 use Rattle.entities.specs.declared.Block.{Block}
 use Rattle.entities.specs.declared.Inst.{Inst}
+use Rattle.entities.specs.Nodes.{inst_place}
+use Rattle.entities.specs.Lists.{holds, ahead_of, from_on}
 
 -- a place in a block: an instruction with its sequence number
 pub record Slot : Type 0 where
@@ -57,6 +59,24 @@ instead num n f (a ∷ rest) = chosen (num a == n) (f a) a (instead num n f rest
 abbrev pub line_number : Line → ℕ
 line_number l = l.block.0
 
+-- ---- in place of each that passes the test, what f makes of it
+
+abbrev pub instead_where : {A : Type 0} → (A → Bool) → (A → List A) → List A → List A
+instead_where test f [] = []
+instead_where test f (a ∷ rest) = chosen (test a) (f a) a (instead_where test f rest)
+
+-- is it the line of block b?
+abbrev pub is_block : Block → Line → Bool
+is_block b l = l.block.0 == b.0
+
+-- does i stand in the line?
+abbrev pub has_inst : Inst → Line → Bool
+has_inst i l = holds inst_place i (insts_in l.slots)
+
+-- is it the slot of i?
+abbrev pub is_inst : Inst → Slot → Bool
+is_inst i s = s.inst.0 == i.0
+
 -- ---- the edits
 
 -- an empty block at the end
@@ -69,3 +89,32 @@ in_block b f ls = instead line_number b.0 (λ l. with_slots l (f l.slots) ∷ []
 
 abbrev pub mark_cold : Block → Program → Program
 mark_cold b p = record { lines = p.lines; cold = slice_set p.cold b.0 true }
+
+-- ---- more edits of blocks
+
+-- an empty block directly ahead of another
+abbrev pub insert_block : Block → (before : Block) → List Line → List Line
+insert_block b before ls = instead_where (is_block before) (λ l. empty_line b ∷ l ∷ []) ls
+
+-- an empty block directly behind another
+abbrev pub insert_block_after : Block → (after : Block) → List Line → List Line
+insert_block_after b after ls = instead_where (is_block after) (λ l. l ∷ empty_line b ∷ []) ls
+
+-- a block taken out, with its instructions where it has any
+abbrev pub remove_block : Block → List Line → List Line
+remove_block b ls = instead_where (is_block b) (λ l. []) ls
+
+-- block b put directly behind the block in which i stands; i and all that follow it move into b with their numbers
+abbrev pub split_block : Block → (before : Inst) → List Line → List Line
+split_block b i ls =
+    instead_where (has_inst i) (λ l. with_slots l (ahead_of (is_inst i) l.slots) ∷ record { block = b; slots = from_on (is_inst i) l.slots } ∷ []) ls
+
+-- ---- more edits of instructions
+
+-- the slots of the block in which i stands become what f makes of them
+abbrev pub in_block_of : Inst → (List Slot → List Slot) → List Line → List Line
+in_block_of i f ls = instead_where (has_inst i) (λ l. with_slots l (f l.slots) ∷ []) ls
+
+-- an instruction taken out; the numbers of the others stay
+abbrev pub remove_inst : Inst → List Line → List Line
+remove_inst i ls = in_block_of i (instead_where (is_inst i) (λ s. [])) ls

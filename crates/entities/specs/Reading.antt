@@ -53,12 +53,21 @@ first_inst b p = head_or (block_insts b p) None
 abbrev pub last_inst : Block → Program → Option Inst
 last_inst b p = last_or None (block_insts b p)
 
+-- is there nothing in the list?
+abbrev pub empty : {A : Type 0} → List A → Bool
+empty [] = true
+empty (x ∷ xs) = false
+
 abbrev pub exactly_one : {A : Type 0} → List A → Bool
 exactly_one [] = false
 exactly_one (x ∷ []) = true
 exactly_one (x ∷ y ∷ zs) = false
 
 -- ---- instructions
+
+-- the slots of the block in which i stands
+abbrev pub slots_with : Inst → Program → List Slot
+slots_with i p = of_inst i (λ l. l.slots) [] p.lines
 
 abbrev pub inserted_inst : Inst → Program → Bool
 inserted_inst i p = holds inst_place i (insts_of p.lines)

@@ -1,14 +1,14 @@
 -- The questions that each call must pass: a list that is read top to bottom, and the first no refuses. Assumes nothing.
-use Rattle.std.specs.Prelude.{◌≡◌, Bool, true, false, cond, not, List, [], ◌∷◌, Some, None, Option, ◌==◌, nat_lt}
+use Rattle.std.specs.Prelude.{◌≡◌, Bool, true, false, cond, not, List, [], ◌∷◌, Some, None, Ok, Err, Option, Result, ◌==◌, nat_lt}
 use Rattle.entities.specs.declared.Block.{Block}
 use Rattle.entities.specs.declared.Inst.{Inst}
 use Rattle.entities.specs.declared.progpoint.ProgramPoint.{ProgramPoint}
 use Rattle.entities.specs.declared.progpoint.ProgramPoint.TheVariants.{Inst as inst_point, Block as block_point}
 use Rattle.faults.specs.declared.Entity.TheVariants.{Block as the_block, Inst as the_inst}
 use Rattle.faults.specs.declared.LayoutFault.{LayoutFault}
-use Rattle.faults.specs.declared.LayoutFault.TheVariants.{OutOfRange, NotInserted, AlreadyInserted, DifferentBlocks}
+use Rattle.faults.specs.declared.LayoutFault.TheVariants.{OutOfRange, NotInserted, AlreadyInserted, NotEmpty, DifferentBlocks}
 use Rattle.entities.specs.Program.{Program}
-use Rattle.entities.specs.Reading.{inserted_block, inserted_inst, inserted_point, point_block}
+use Rattle.entities.specs.Reading.{inserted_block, inserted_inst, inserted_point, point_block, slots_of, empty}
 use Rattle.faults.specs.Refusals.{Refusal, refusal_of, entity_at}
 
 -- a question, and the refusal of its no
@@ -27,6 +27,11 @@ first_no (q ∷ qs) = cond q.yes (first_no qs) (Some q.no)
 abbrev pub FirstNo : List Question → Option LayoutFault → Type 0 → Type 0
 FirstNo qs (Some f) told = first_no qs ≡ Some (refusal_of f)
 FirstNo qs None told = (first_no qs ≡ None) × told
+
+-- the same of a call that finds something where no question has its no: `Found` holds of it
+abbrev pub FirstNoOr : {A : Type 0} → List Question → Result A LayoutFault → (A → Type 0) → Type 0
+FirstNoOr qs (Err f) Found = first_no qs ≡ Some (refusal_of f)
+FirstNoOr qs (Ok a) Found = (first_no qs ≡ None) × Found a
 
 -- ---- the questions
 
@@ -57,12 +62,59 @@ append_block_asked b p =
     ∷ ask (not (inserted_block b p)) (AlreadyInserted (the_block b))
     ∷ []
 
+abbrev pub insert_block_asked : Block → (before : Block) → Program → List Question
+insert_block_asked b before p =
+    ask (in_range_block b) (OutOfRange (the_block b))
+    ∷ ask (in_range_block before) (OutOfRange (the_block before))
+    ∷ ask (inserted_block before p) (NotInserted (the_block before))
+    ∷ ask (not (inserted_block b p)) (AlreadyInserted (the_block b))
+    ∷ []
+
+-- behind a block, the same questions are put as ahead of it
+abbrev pub insert_block_after_asked : Block → (after : Block) → Program → List Question
+insert_block_after_asked b after p = insert_block_asked b after p
+
+abbrev pub remove_block_asked : Block → Program → List Question
+remove_block_asked b p =
+    ask (in_range_block b) (OutOfRange (the_block b))
+    ∷ ask (inserted_block b p) (NotInserted (the_block b))
+    ∷ ask (empty (slots_of b p)) (NotEmpty (the_block b))
+    ∷ []
+
+abbrev pub remove_block_and_insts_asked : Block → Program → List Question
+remove_block_and_insts_asked b p =
+    ask (in_range_block b) (OutOfRange (the_block b))
+    ∷ ask (inserted_block b p) (NotInserted (the_block b))
+    ∷ []
+
 abbrev pub append_inst_asked : Inst → Block → Program → List Question
 append_inst_asked i b p =
     ask (in_range_inst i) (OutOfRange (the_inst i))
     ∷ ask (in_range_block b) (OutOfRange (the_block b))
     ∷ ask (inserted_block b p) (NotInserted (the_block b))
     ∷ ask (not (inserted_inst i p)) (AlreadyInserted (the_inst i))
+    ∷ []
+
+abbrev pub insert_inst_asked : Inst → (before : Inst) → Program → List Question
+insert_inst_asked i before p =
+    ask (in_range_inst i) (OutOfRange (the_inst i))
+    ∷ ask (in_range_inst before) (OutOfRange (the_inst before))
+    ∷ ask (inserted_inst before p) (NotInserted (the_inst before))
+    ∷ ask (not (inserted_inst i p)) (AlreadyInserted (the_inst i))
+    ∷ []
+
+abbrev pub remove_inst_asked : Inst → Program → List Question
+remove_inst_asked i p =
+    ask (in_range_inst i) (OutOfRange (the_inst i))
+    ∷ ask (inserted_inst i p) (NotInserted (the_inst i))
+    ∷ []
+
+abbrev pub split_block_asked : Block → (before : Inst) → Program → List Question
+split_block_asked b before p =
+    ask (in_range_block b) (OutOfRange (the_block b))
+    ∷ ask (in_range_inst before) (OutOfRange (the_inst before))
+    ∷ ask (inserted_inst before p) (NotInserted (the_inst before))
+    ∷ ask (not (inserted_block b p)) (AlreadyInserted (the_block b))
     ∷ []
 
 abbrev pub set_cold_asked : Block → List Question

@@ -7,7 +7,7 @@ use Rattle.faults.specs.declared.Layer.TheVariants.{Layout as by_layout}
 use Rattle.faults.specs.declared.Entity.{Entity}
 use Rattle.faults.specs.declared.Entity.TheVariants.{Block as the_block, Inst as the_inst}
 use Rattle.faults.specs.declared.LayoutFault.{LayoutFault}
-use Rattle.faults.specs.declared.LayoutFault.TheVariants.{OutOfRange, NotInserted, AlreadyInserted, DifferentBlocks}
+use Rattle.faults.specs.declared.LayoutFault.TheVariants.{OutOfRange, NotInserted, AlreadyInserted, NotEmpty, DifferentBlocks}
 
 -- the question's number, who asked it, and what is at fault
 pub record Refusal : Type 0 where
@@ -19,6 +19,7 @@ abbrev pub refusal_of : LayoutFault → Refusal
 refusal_of (OutOfRange e) = record { number = 2; layer = by_layout; entity = Some e }
 refusal_of (NotInserted e) = record { number = 5; layer = by_layout; entity = Some e }
 refusal_of (AlreadyInserted e) = record { number = 6; layer = by_layout; entity = Some e }
+refusal_of (NotEmpty e) = record { number = 7; layer = by_layout; entity = Some e }
 refusal_of (DifferentBlocks e) = record { number = 9; layer = by_layout; entity = Some e }
 
 -- a point as the thing at fault

@@ -5,12 +5,12 @@ use Rattle.entities.specs.declared.Inst.{Inst}
 use Rattle.entities.specs.declared.progpoint.ProgramPoint.{ProgramPoint}
 use Rattle.entities.specs.declared.progpoint.Order.{Order}
 use Rattle.faults.specs.declared.LayoutFault.{LayoutFault}
-use Rattle.entities.specs.Program.{Program, append_block, mark_cold, with_lines}
+use Rattle.entities.specs.Program.{Program, append_block, insert_block, insert_block_after, remove_block, split_block, remove_inst, mark_cold, with_lines}
 use Rattle.entities.specs.Points.{compared}
-use Rattle.entities.specs.Reading.{slots_of, point_block, point_seq}
+use Rattle.entities.specs.Reading.{slots_of, slots_with, point_block, point_seq}
 use Rattle.faults.specs.Refusals.{Refusal, Told, accepted, refused, told}
-use Rattle.faults.specs.Questions.{first_no, append_block_asked, append_inst_asked, set_cold_asked, pp_block_asked, pp_cmp_asked}
-use Rattle.entities.specs.Numbering.{numbered_last, appended_inst}
+use Rattle.faults.specs.Questions.{first_no, append_block_asked, insert_block_asked, insert_block_after_asked, remove_block_asked, remove_block_and_insts_asked, split_block_asked, append_inst_asked, insert_inst_asked, remove_inst_asked, set_cold_asked, pp_block_asked, pp_cmp_asked}
+use Rattle.entities.specs.Numbering.{numbered_last, numbered_before, appended_inst, inserted_before}
 
 -- what a question answers, once it has passed its own questions
 abbrev pub answered : {A : Type 0} → Option Refusal → A → Told A
@@ -37,9 +37,33 @@ pub record Follows (rule : Ruled) (r : Result ℕ LayoutFault) (after : Program)
 abbrev pub append_block_rule : Block → Program → Ruled
 append_block_rule b p = ruled (first_no (append_block_asked b p)) 0 (with_lines p (append_block b p.lines)) p
 
+abbrev pub insert_block_rule : Block → (before : Block) → Program → Ruled
+insert_block_rule b before p =
+    ruled (first_no (insert_block_asked b before p)) 0 (with_lines p (insert_block b before p.lines)) p
+
+abbrev pub insert_block_after_rule : Block → (after : Block) → Program → Ruled
+insert_block_after_rule b after p =
+    ruled (first_no (insert_block_after_asked b after p)) 0 (with_lines p (insert_block_after b after p.lines)) p
+
+abbrev pub remove_block_rule : Block → Program → Ruled
+remove_block_rule b p = ruled (first_no (remove_block_asked b p)) 0 (with_lines p (remove_block b p.lines)) p
+
+abbrev pub remove_block_and_insts_rule : Block → Program → Ruled
+remove_block_and_insts_rule b p = ruled (first_no (remove_block_and_insts_asked b p)) 0 (with_lines p (remove_block b p.lines)) p
+
+abbrev pub split_block_rule : Block → (before : Inst) → Program → Ruled
+split_block_rule b before p = ruled (first_no (split_block_asked b before p)) 0 (with_lines p (split_block b before p.lines)) p
+
 abbrev pub append_inst_rule : Inst → Block → Program → Ruled
 append_inst_rule i b p =
     ruled (first_no (append_inst_asked i b p)) (numbered_last (slots_of b p) i).writes (appended_inst i b p) p
+
+abbrev pub insert_inst_rule : Inst → (before : Inst) → Program → Ruled
+insert_inst_rule i before p =
+    ruled (first_no (insert_inst_asked i before p)) (numbered_before i before (slots_with before p)).writes (inserted_before i before p) p
+
+abbrev pub remove_inst_rule : Inst → Program → Ruled
+remove_inst_rule i p = ruled (first_no (remove_inst_asked i p)) 0 (with_lines p (remove_inst i p.lines)) p
 
 abbrev pub set_cold_rule : Block → Program → Ruled
 set_cold_rule b p = ruled (first_no (set_cold_asked b)) 0 (mark_cold b p) p

@@ -42,10 +42,12 @@ impl From<ProgramPoint> for Entity {
 pub enum LayoutFault {
     /// A number given is outside the layout's range.
     OutOfRange(Entity),
-    /// What is named as place or target is not inserted.
+    /// What is named as place, target or thing to remove is not inserted.
     NotInserted(Entity),
     /// What is to be put in is inserted already.
     AlreadyInserted(Entity),
+    /// The block to be removed has instructions.
+    NotEmpty(Entity),
     /// The second of two points is in another block than the first.
     DifferentBlocks(Entity),
 }
@@ -59,6 +61,7 @@ impl LayoutFault {
             LayoutFault::OutOfRange(_) => 2,
             LayoutFault::NotInserted(_) => 5,
             LayoutFault::AlreadyInserted(_) => 6,
+            LayoutFault::NotEmpty(_) => 7,
             LayoutFault::DifferentBlocks(_) => 9,
         }
     }
@@ -78,6 +81,7 @@ impl LayoutFault {
             LayoutFault::OutOfRange(entity)
             | LayoutFault::NotInserted(entity)
             | LayoutFault::AlreadyInserted(entity)
+            | LayoutFault::NotEmpty(entity)
             | LayoutFault::DifferentBlocks(entity) => entity,
         }
     }
@@ -124,6 +128,7 @@ impl fmt::Display for LayoutFault {
             LayoutFault::OutOfRange(_) => f.write_str(" is out of range"),
             LayoutFault::NotInserted(_) => f.write_str(" is not inserted"),
             LayoutFault::AlreadyInserted(_) => f.write_str(" is inserted already"),
+            LayoutFault::NotEmpty(_) => f.write_str(" has instructions"),
             LayoutFault::DifferentBlocks(_) => f.write_str(" is in another block"),
         }
     }

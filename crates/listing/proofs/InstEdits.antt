@@ -1,11 +1,12 @@
 -- Edits of one block's instruction chain. Assumes nothing.
 use Rattle.std.proofs.Common.{◌≡◌, ℕ, ◌<◌, ◌⊎◌, List, [], ◌∷◌, ◌++◌, length, Some, None, Option, sym, refl, ap, ◌∙◌, subst, inl, inr, append-nil}
+use Rattle.std.proofs.lemmas.Bool.{cases_eq}
 use Rattle.chain.proofs.Chained.{frame}
 use Rattle.chain.proofs.Edits.{length-alter, read_here, read_kept, read_other}
-use Rattle.chain.proofs.Keys.{disjoint_head, distinct_across, distinct_right, head_not, last_not, misses_both, misses_left, misses_right, none_misses, none_some, within_right}
-use Rattle.chain.proofs.Members.{inserted_away, inserted_keeps, length_inserted, map-alter}
+use Rattle.chain.proofs.Keys.{disjoint_head, distinct_across, distinct_right, head_not, last_not, misses_both, misses_left, misses_right, none_misses, none_some, some_inj, within_right}
+use Rattle.chain.proofs.Members.{inserted_away, inserted_keeps, length_inserted, length_removed, map-alter, removed_away, removed_keeps}
 use Rattle.chain.specs.Chain.{AllWithin, Chain, Disjoint, Distinct, Misses, head_or, last_or}
-use Rattle.chain.specs.Table.{alter, inserted_table, read_at}
+use Rattle.chain.specs.Table.{alter, inserted_table, read_at, removed_table}
 use Rattle.chain.specs.declared.Ends.{Ends}
 use Rattle.entities.specs.Nodes.{block_links, block_named, block_place, ends_of, first_of, inst_links, inst_place, last_of, number_of}
 use Rattle.entities.specs.Program.{Line, Slot, blocks_of, insts_in, insts_of, with_slots}
@@ -18,7 +19,7 @@ use Rattle.listing.proofs.BlockEdits.{finish, pair}
 use Rattle.listing.proofs.Found.{block_apart, inst_apart, insts_in-append, locate, map-append}
 use Rattle.listing.proofs.Frames.{SameBlocks, SameInst, filled_left, filled_right, lines_apart, lines_edited, named_misses}
 use Rattle.listing.specs.Edits.{Edited, InstIn, after_insts, with_block, with_inst_ends}
-use Rattle.listing.specs.Lawful.{Filled, Held, Represents, Wired, listed}
+use Rattle.listing.specs.Lawful.{BareInst, Filled, Held, Represents, Wired, listed}
 
 -- ---- a block's ends written
 
@@ -66,11 +67,6 @@ pub held_both : (t : List InstNode) (b : Block) (sa sb : List Slot) → Held t b
 held_both t b [] sb x y = y
 held_both t b (s ∷ sa) sb x y = (x.0, x.1, held_both t b sa sb x.2 y)
 
--- the same names and numbers, but at k
-pub held_kept : (t u : List InstNode) (b : Block) (k : Inst) → ((i : Inst) → (Some k ≡ Some i → ⊥) → read_at block_named u i.0 ≡ read_at block_named t i.0) → ((i : Inst) → (Some k ≡ Some i → ⊥) → read_at number_of u i.0 ≡ read_at number_of t i.0) → (ss : List Slot) → Misses (Some k) (insts_in ss) → Held t b ss → Held u b ss
-held_kept t u b k f g [] m h = tt
-held_kept t u b k f g (s ∷ ss) m h = (f s.inst m.0 ∙ h.0, g s.inst m.0 ∙ h.1, held_kept t u b k f g ss m.1 h.2)
-
 misses_put : {K : Type 0} (u k : K) (xs ys : List K) → (Some u ≡ Some k → ⊥) → Misses (Some u) (xs ++ ys) → Misses (Some u) (xs ++ (k ∷ ys))
 misses_put u k [] ys h m = (h, m)
 misses_put u k (x ∷ xs) ys h m = (m.0, misses_put u k xs ys h m.1)
@@ -111,18 +107,52 @@ module _ (t : Tables) (xs : List Line) (l : Line) (ys : List Line) (r : Represen
   pub block_low : l.block.0 < length t.blocks
   block_low = (within_right block_place (length t.blocks) (blocks_of xs) (l.block ∷ blocks_of ys) (subst (λ ks. AllWithin block_place (length t.blocks) ks) (map-append (λ m. m.block) xs (l ∷ ys)) r.blocks.within)).0
 
--- ---- an instruction put into a line, between sa and sb
+-- ---- two node tables that have the same names and numbers, but at k
 
-module _ (t u : Tables) (new : Slot) (xs : List Line) (l : Line) (ys : List Line) (sa sb : List Slot) (p n : Option Inst) (is : List InstNode) (e : Ends Inst) (law : Wired t) (r : Represents t (xs ++ (l ∷ ys))) (cut : l.slots ≡ sa ++ sb) (low : new.inst.0 < length t.insts) (fresh : Misses (Some new.inst) (insts_of (xs ++ (l ∷ ys)))) (ep : p ≡ last_or None (insts_in sa)) (en : n ≡ head_or (insts_in sb) None) (table : is ≡ inserted_table inst_place inst_links t.insts p n new.inst) (chain : Chain inst_place inst_links is e (insts_in sa ++ (new.inst ∷ insts_in sb))) (number : read_at number_of is new.inst.0 ≡ Some new.seq) (made : u ≡ after_insts t l.block (alter is new.inst.0 (λ m. with_block m (Some l.block))) e) where
+pub held_kept : (t u : List InstNode) (b : Block) (k : Inst) → ((i : Inst) → (Some k ≡ Some i → ⊥) → read_at block_named u i.0 ≡ read_at block_named t i.0) → ((i : Inst) → (Some k ≡ Some i → ⊥) → read_at number_of u i.0 ≡ read_at number_of t i.0) → (ss : List Slot) → Misses (Some k) (insts_in ss) → Held t b ss → Held u b ss
+held_kept t u b k names numbers [] m h = tt
+held_kept t u b k names numbers (s ∷ ss) m h = (names s.inst m.0 ∙ h.0, numbers s.inst m.0 ∙ h.1, held_kept t u b k names numbers ss m.1 h.2)
+
+-- ---- the nodes once k is linked in between p and n, or taken out there, and names o
+
+module _ (t is : List InstNode) (p n : Option Inst) (k : Inst) (o : Option Block) (names : (j : ℕ) → read_at block_named is j ≡ read_at block_named t j) (numbers : (j : ℕ) → read_at number_of is j ≡ read_at number_of t j) (away : (link : InstNode → Option Inst) (i : Inst) → (p ≡ Some i → ⊥) → (n ≡ Some i → ⊥) → (Some k ≡ Some i → ⊥) → read_at link is i.0 ≡ read_at link t i.0) where
+  abbrev renamed : List InstNode
+  renamed = alter is k.0 (λ m. with_block m o)
+
+  names_kept : (i : Inst) → (Some k ≡ Some i → ⊥) → read_at block_named renamed i.0 ≡ read_at block_named t i.0
+  names_kept i h = read_other (λ m. with_block m o) block_named is k.0 i.0 (λ q. h (ap Some (inst_apart k i q))) ∙ names i.0
+
+  numbers_kept : (i : Inst) → read_at number_of renamed i.0 ≡ read_at number_of t i.0
+  numbers_kept i = read_kept (λ m. with_block m o) number_of (λ m. refl) is k.0 i.0 ∙ numbers i.0
+
+  -- the same names and numbers, but at k
+  held_renamed : (b : Block) (ss : List Slot) → Misses (Some k) (insts_in ss) → Held t b ss → Held renamed b ss
+  held_renamed b = held_kept t renamed b k names_kept (λ i _. numbers_kept i)
+
+  elsewhere : (ia ib : List Inst) → p ≡ last_or None ia → n ≡ head_or ib None → (i : Inst) → Misses (Some i) (ia ++ (k ∷ ib)) → SameInst t renamed i
+  elsewhere ia ib ep en i m =
+      let ma = misses_left (Some i) ia (k ∷ ib) m in
+      let mk = misses_right (Some i) ia (k ∷ ib) m in
+      let hp : p ≡ Some i → ⊥ = λ q. last_not i None ia (none_some i) ma (sym ep ∙ q) in
+      let hn : n ≡ Some i → ⊥ = λ q. head_not i ib mk.1 (sym en ∙ q) in
+      let hk : Some k ≡ Some i → ⊥ = λ q. mk.0 (sym q) in
+      record {
+        block = names_kept i hk;
+        seq = numbers_kept i;
+        prev = read_kept (λ m. with_block m o) inst_links.prev_of (λ m. refl) is k.0 i.0 ∙ away inst_links.prev_of i hp hn hk;
+        next = read_kept (λ m. with_block m o) inst_links.next_of (λ m. refl) is k.0 i.0 ∙ away inst_links.next_of i hp hn hk;
+      }
+
+-- ---- an instruction put into a line, between sa and sb; it has the number of its node
+
+module _ (t u : Tables) (new : Slot) (xs : List Line) (l : Line) (ys : List Line) (sa sb : List Slot) (p n : Option Inst) (is : List InstNode) (e : Ends Inst) (law : Wired t) (r : Represents t (xs ++ (l ∷ ys))) (cut : l.slots ≡ sa ++ sb) (low : new.inst.0 < length t.insts) (fresh : Misses (Some new.inst) (insts_of (xs ++ (l ∷ ys)))) (ep : p ≡ last_or None (insts_in sa)) (en : n ≡ head_or (insts_in sb) None) (table : is ≡ inserted_table inst_place inst_links t.insts p n new.inst) (chain : Chain inst_place inst_links is e (insts_in sa ++ (new.inst ∷ insts_in sb))) (number : read_at number_of t.insts new.inst.0 ≡ Some new.seq) (made : u ≡ after_insts t l.block (alter is new.inst.0 (λ m. with_block m (Some l.block))) e) where
   pub put_inst : Edited t u (xs ++ (with_slots l (sa ++ (new ∷ sb)) ∷ ys))
   put_inst =
       let k : Inst = new.inst in
       let b : Block = l.block in
       let f : InstNode → InstNode = λ m. with_block m (Some b) in
       let js : List InstNode = alter is k.0 f in
-      let u0 : Tables = after_insts t b js e in
-      let v : Tables = t in
-      let w : Tables = u0 in
+      let w : Tables = after_insts t b js e in
       let l' : Line = with_slots l (sa ++ (new ∷ sb)) in
       let ia : List Inst = insts_in sa in
       let ib : List Inst = insts_in sb in
@@ -139,33 +169,71 @@ module _ (t u : Tables) (new : Slot) (xs : List Line) (l : Line) (ys : List Line
       let size1 : length is ≡ length t.insts = ap length table ∙ length_inserted inst_place inst_links t.insts p n k in
       let size : length js ≡ length t.insts = length-alter f is k.0 ∙ size1 in
       let low1 : k.0 < length is = subst (λ m. k.0 < m) (sym size1) low in
-      let apart : (i : Inst) → (Some k ≡ Some i → ⊥) → k.0 ≡ i.0 → ⊥ = λ i h q. h (ap Some (inst_apart k i q)) in
-      let names : (i : Inst) → (Some k ≡ Some i → ⊥) → read_at block_named js i.0 ≡ read_at block_named t.insts i.0 = λ i h. read_other f block_named is k.0 i.0 (apart i h) ∙ ap (λ q. read_at block_named q i.0) table ∙ inserted_keeps inst_place inst_links block_named (λ m o. refl) (λ m o. refl) t.insts p n k i.0 in
-      let seqs : (i : Inst) → (Some k ≡ Some i → ⊥) → read_at number_of js i.0 ≡ read_at number_of t.insts i.0 = λ i h. read_other f number_of is k.0 i.0 (apart i h) ∙ ap (λ q. read_at number_of q i.0) table ∙ inserted_keeps inst_place inst_links number_of (λ m o. refl) (λ m o. refl) t.insts p n k i.0 in
-      let far : (i : Inst) → Misses (Some i) touched → SameInst t.insts js i = λ i m.
-      let m0 = subst (λ ks. Misses (Some i) ks) parts m in
-      let ma = misses_left (Some i) ia (k ∷ ib) m0 in
-      let mk = misses_right (Some i) ia (k ∷ ib) m0 in
-      let hp : p ≡ Some i → ⊥ = λ q. last_not i None ia (none_some i) ma (sym ep ∙ q) in
-      let hn : n ≡ Some i → ⊥ = λ q. head_not i ib mk.1 (sym en ∙ q) in
-      let hk : Some k ≡ Some i → ⊥ = λ q. mk.0 (sym q) in
-      record {
-        block = names i hk;
-        seq = seqs i hk;
-        prev = read_kept f inst_links.prev_of (λ m. refl) is k.0 i.0 ∙ ap (λ q. read_at inst_links.prev_of q i.0) table ∙ inserted_away inst_apart inst_links inst_links.prev_of t.insts p n k i hp hn hk;
-        next = read_kept f inst_links.next_of (λ m. refl) is k.0 i.0 ∙ ap (λ q. read_at inst_links.next_of q i.0) table ∙ inserted_away inst_apart inst_links inst_links.next_of t.insts p n k i hp hn hk;
-      } in
+      let names : (j : ℕ) → read_at block_named is j ≡ read_at block_named t.insts j = λ j. ap (λ q. read_at block_named q j) table ∙ inserted_keeps inst_place inst_links block_named (λ m o. refl) (λ m o. refl) t.insts p n k j in
+      let numbers : (j : ℕ) → read_at number_of is j ≡ read_at number_of t.insts j = λ j. ap (λ q. read_at number_of q j) table ∙ inserted_keeps inst_place inst_links number_of (λ m o. refl) (λ m o. refl) t.insts p n k j in
+      let away : (link : InstNode → Option Inst) (i : Inst) → (p ≡ Some i → ⊥) → (n ≡ Some i → ⊥) → (Some k ≡ Some i → ⊥) → read_at link is i.0 ≡ read_at link t.insts i.0 = λ link i hp hn hk. ap (λ q. read_at link q i.0) table ∙ inserted_away inst_apart inst_links link t.insts p n k i hp hn hk in
+      let kept : (ss : List Slot) → Misses (Some k) (insts_in ss) → Held t.insts b ss → Held js b ss = held_renamed t.insts is p n k (Some b) names numbers away b in
       let filled : Filled w l' = record {
         chain = subst (λ q. Chain inst_place inst_links js q (insts_in (sa ++ (new ∷ sb)))) (sym (ends_here t.blocks b e (block_low t xs l ys r))) (subst (λ ks. Chain inst_place inst_links js e ks) (sym (insts_cut sa (new ∷ sb))) (unlinked f (λ m. refl) (λ m. refl) is k.0 e (ia ++ (k ∷ ib)) chain));
-        held = held_both js b sa (new ∷ sb) (held_kept t.insts js b k names seqs sa (misses_left (Some k) ia ib ml) (held_left t.insts b sa sb held)) (read_here f block_named (Some b) (λ m. refl) is k.0 low1, read_kept f number_of (λ m. refl) is k.0 k.0 ∙ number, held_kept t.insts js b k names seqs sb (misses_right (Some k) ia ib ml) (held_right t.insts b sa sb held));
+        held = held_both js b sa (new ∷ sb) (kept sa (misses_left (Some k) ia ib ml) (held_left t.insts b sa sb held)) (read_here f block_named (Some b) (λ m. refl) is k.0 low1, numbers_kept t.insts is p n k (Some b) names numbers away k ∙ number, kept sb (misses_right (Some k) ia ib ml) (held_right t.insts b sa sb held));
       } in
-      let rep : Represents w (xs ++ (l' ∷ ys)) = lines_edited v w xs (l ∷ []) (l' ∷ []) ys touched r refl refl (ends_set t.blocks b e) size far
+      let rep : Represents w (xs ++ (l' ∷ ys)) = lines_edited t w xs (l ∷ []) (l' ∷ []) ys touched r refl refl (ends_set t.blocks b e) size
+      (λ i m. elsewhere t.insts is p n k (Some b) names numbers away ia ib ep en i (subst (λ ks. Misses (Some i) ks) parts m))
       (subst (λ ks. Disjoint (insts_of xs) ks) (sym parts) (disjoint_put (insts_of xs) k ia ib mx (subst (λ ks. Disjoint (insts_of xs) ks) old (far_ahead t xs l ys r))))
       (subst (λ ks. Disjoint (insts_of ys) ks) (sym parts) (disjoint_put (insts_of ys) k ia ib my (subst (λ ks. Disjoint (insts_of ys) ks) old (far_behind t xs l ys r))))
       (filled, tt)
       (λ i m. inr (m, subst (λ ks. Misses (Some i) ks) (sym old) (misses_drop i k ia ib (subst (λ ks. Misses (Some i) ks) parts m)))) in
       subst (λ q. Edited t q (xs ++ (l' ∷ ys))) (sym made)
-      (finish t u0 (xs ++ (l' ∷ ys)) (length-alter (λ m. with_inst_ends m e) t.blocks b.0 ∙ law.blocks_size) (size ∙ law.insts_size) (map-alter (λ m. with_inst_ends m e) (λ m. m.cold) (λ m. refl) t.blocks b.0) rep)
+      (finish t w (xs ++ (l' ∷ ys)) (length-alter (λ m. with_inst_ends m e) t.blocks b.0 ∙ law.blocks_size) (size ∙ law.insts_size) (map-alter (λ m. with_inst_ends m e) (λ m. m.cold) (λ m. refl) t.blocks b.0) rep)
+
+-- ---- an instruction taken out of a line, from between sa and sb
+
+module _ (t u : Tables) (xs : List Line) (l : Line) (ys : List Line) (sa : List Slot) (s : Slot) (sb : List Slot) (p n : Option Inst) (is : List InstNode) (e : Ends Inst) (law : Wired t) (r : Represents t (xs ++ (l ∷ ys))) (cut : l.slots ≡ sa ++ (s ∷ sb)) (ep : p ≡ last_or None (insts_in sa)) (en : n ≡ head_or (insts_in sb) None) (table : is ≡ removed_table inst_place inst_links t.insts p n s.inst) (chain : Chain inst_place inst_links is e (insts_in sa ++ insts_in sb)) (no_prev : read_at inst_links.prev_of is s.inst.0 ≡ None) (no_next : read_at inst_links.next_of is s.inst.0 ≡ None) (made : u ≡ after_insts t l.block (alter is s.inst.0 (λ m. with_block m None)) e) where
+  pub take_inst : Edited t u (xs ++ (with_slots l (sa ++ sb) ∷ ys))
+  take_inst =
+      let k : Inst = s.inst in
+      let b : Block = l.block in
+      let f : InstNode → InstNode = λ m. with_block m None in
+      let js : List InstNode = alter is k.0 f in
+      let w : Tables = after_insts t b js e in
+      let l' : Line = with_slots l (sa ++ sb) in
+      let ia : List Inst = insts_in sa in
+      let ib : List Inst = insts_in sb in
+      let touched : List Inst = insts_of (l ∷ []) in
+      let mine : insts_in l.slots ≡ ia ++ (k ∷ ib) = ap insts_in cut ∙ insts_cut sa (s ∷ sb) in
+      let old : touched ≡ ia ++ (k ∷ ib) = append-nil (insts_in l.slots) ∙ mine in
+      let parts : insts_of (l' ∷ []) ≡ ia ++ ib = append-nil (insts_in (sa ++ sb)) ∙ insts_cut sa sb in
+      let here = this_line t xs l ys r in
+      let held : Held t.insts b (sa ++ (s ∷ sb)) = subst (λ ss. Held t.insts b ss) cut here.held in
+      let d : Distinct (ia ++ (k ∷ ib)) = subst (λ ks. Distinct ks) mine here.chain.distinct in
+      let size1 : length is ≡ length t.insts = ap length table ∙ length_removed inst_place inst_links t.insts p n k in
+      let size : length js ≡ length t.insts = length-alter f is k.0 ∙ size1 in
+      let low : k.0 < length t.insts = (within_right inst_place (length t.insts) ia (k ∷ ib) (subst (λ ks. AllWithin inst_place (length t.insts) ks) mine here.chain.within)).0 in
+      let low1 : k.0 < length is = subst (λ m. k.0 < m) (sym size1) low in
+      let names : (j : ℕ) → read_at block_named is j ≡ read_at block_named t.insts j = λ j. ap (λ q. read_at block_named q j) table ∙ removed_keeps inst_place inst_links block_named (λ m o. refl) (λ m o. refl) t.insts p n k j in
+      let numbers : (j : ℕ) → read_at number_of is j ≡ read_at number_of t.insts j = λ j. ap (λ q. read_at number_of q j) table ∙ removed_keeps inst_place inst_links number_of (λ m o. refl) (λ m o. refl) t.insts p n k j in
+      let away : (link : InstNode → Option Inst) (i : Inst) → (p ≡ Some i → ⊥) → (n ≡ Some i → ⊥) → (Some k ≡ Some i → ⊥) → read_at link is i.0 ≡ read_at link t.insts i.0 = λ link i hp hn hk. ap (λ q. read_at link q i.0) table ∙ removed_away inst_apart inst_links link t.insts p n k i hp hn hk in
+      let kept : (ss : List Slot) → Misses (Some k) (insts_in ss) → Held t.insts b ss → Held js b ss = held_renamed t.insts is p n k None names numbers away b in
+      let filled : Filled w l' = record {
+        chain = subst (λ q. Chain inst_place inst_links js q (insts_in (sa ++ sb))) (sym (ends_here t.blocks b e (block_low t xs l ys r))) (subst (λ ks. Chain inst_place inst_links js e ks) (sym (insts_cut sa sb)) (unlinked f (λ m. refl) (λ m. refl) is k.0 e (ia ++ ib) chain));
+        held = held_both js b sa sb (kept sa (disjoint_head ia k ib (distinct_across ia (k ∷ ib) d)) (held_left t.insts b sa (s ∷ sb) held)) (kept sb (distinct_right ia (k ∷ ib) d).0 (held_right t.insts b sa (s ∷ sb) held).2);
+      } in
+      let bare : BareInst js k = record {
+        block = read_here f block_named None (λ m. refl) is k.0 low1;
+        prev = read_kept f inst_links.prev_of (λ m. refl) is k.0 k.0 ∙ no_prev;
+        next = read_kept f inst_links.next_of (λ m. refl) is k.0 k.0 ∙ no_next;
+      } in
+      let rep : Represents w (xs ++ (l' ∷ ys)) = lines_edited t w xs (l ∷ []) (l' ∷ []) ys touched r refl refl (ends_set t.blocks b e) size
+      (λ i m. elsewhere t.insts is p n k None names numbers away ia ib ep en i (subst (λ ks. Misses (Some i) ks) old m))
+      (far_ahead t xs l ys r) (far_behind t xs l ys r) (filled, tt)
+      (λ i m. elim (cases_eq i.0 k.0) [
+        | inl q ↦ inl (subst (λ x. BareInst js x) (sym (inst_apart i k q)) bare)
+        | inr ne ↦
+            let m0 : Misses (Some i) touched = subst (λ ks. Misses (Some i) ks) (sym old) (misses_put i k ia ib (λ q. ne (ap inst_place (some_inj i k q))) (subst (λ ks. Misses (Some i) ks) parts m)) in
+            inr (m0, m0)
+      ]) in
+      subst (λ q. Edited t q (xs ++ (l' ∷ ys))) (sym made)
+      (finish t w (xs ++ (l' ∷ ys)) (length-alter (λ m. with_inst_ends m e) t.blocks b.0 ∙ law.blocks_size) (size ∙ law.insts_size) (map-alter (λ m. with_inst_ends m e) (λ m. m.cold) (λ m. refl) t.blocks b.0) rep)
 
 -- ---- where an inserted instruction stands
 

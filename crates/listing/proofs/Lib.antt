@@ -1,3 +1,4 @@
+pub mod Stretches
 pub mod Found
 pub mod Unique
 pub mod Props
@@ -8,11 +9,16 @@ pub mod InstLaws
 pub mod Parts
 pub mod Numbers
 pub mod Rises
-pub mod Stretches
 pub mod Questions
-pub mod Appends
 pub mod Marks
 pub mod Empty
 pub mod Landed
 pub mod Ranks
 pub mod Walking
+pub mod Standing
+pub mod Numbered
+pub mod Appends
+pub mod Laws
+pub mod Linking
+pub mod Naming
+pub mod Splits

@@ -9,7 +9,7 @@ use Rattle.chain.specs.declared.Ends.{Ends}
 use Rattle.entities.specs.Lists.{ahead, behind, holds}
 use Rattle.entities.specs.Nodes.{block_links, block_named, block_place, ends_of, first_of, inst_links, inst_place, last_of, marks, no_block, no_inst, number_of}
 use Rattle.entities.specs.Program.{Line, Slot, blocks_of, insts_in, insts_of}
-use Rattle.entities.specs.Reading.{block_insts, entry_block, exactly_one, first_inst, inserted_inst, inst_block, inst_seq, last_block, last_inst, next_block, next_inst, of_block, of_inst, prev_block, prev_inst, seq_in, slots_of}
+use Rattle.entities.specs.Reading.{block_insts, empty, entry_block, exactly_one, first_inst, inserted_inst, inst_block, inst_seq, last_block, last_inst, next_block, next_inst, of_block, of_inst, prev_block, prev_inst, seq_in, slots_of}
 use Rattle.entities.specs.declared.Block.{Block}
 use Rattle.entities.specs.declared.Inst.{Inst}
 use Rattle.entities.specs.declared.nodes.BlockNode.{BlockNode}
@@ -80,7 +80,7 @@ record BlockReads (t : Tables) (b : Block) : Type 0 where
   last : read_at last_of t.blocks b.0 ≡ last_inst b (program_of t)
 
 -- the slots of an inserted block
-slots_at : (t : Tables) (b : Block) (a : At t b) → slots_of b (program_of t) ≡ a.it.slots
+pub slots_at : (t : Tables) (b : Block) (a : At t b) → slots_of b (program_of t) ≡ a.it.slots
 slots_at t b a = ap (of_block b (λ l. l.slots) []) a.is ∙ of_block_at b (λ l. l.slots) [] a.ahead a.it a.behind a.clear a.here
 
 block_reads : (t : Tables) (b : Block) → Wired t → BlockReads t b
@@ -120,6 +120,14 @@ one_empty : (ss : List Slot) → is_some (head_or (insts_in ss) None) ≡ false 
 one_empty [] e = refl
 one_empty (s ∷ ss) e = absurd (let z : ◌≡◌ {A = ℕ} 0 1 = cc in omega arith)
 
+none_first : (ss : List Slot) → is_some (head_or (insts_in ss) None) ≡ false → ss ≡ []
+none_first [] e = refl
+none_first (s ∷ ss) e = absurd (let z : ◌≡◌ {A = ℕ} 0 1 = cc in omega arith)
+
+some_first : (ss : List Slot) → is_some (head_or (insts_in ss) None) ≡ true → empty ss ≡ false
+some_first [] e = absurd (let z : ◌≡◌ {A = ℕ} 0 1 = cc in omega arith)
+some_first (s ∷ ss) e = refl
+
 one_only : (ss : List Slot) → Distinct (insts_in ss) → is_some (head_or (insts_in ss) None) ≡ true → head_or (insts_in ss) None ≡ last_or None (insts_in ss) → exactly_one ss ≡ true
 one_only [] d h e = absurd (let z : ◌≡◌ {A = ℕ} 0 1 = cc in omega arith)
 one_only (s ∷ []) d h e = refl
@@ -151,6 +159,8 @@ of_block_node t b n h e =
     let last : n.last_inst ≡ last_inst b (program_of t) = ap last_of e ∙ read_any last_of no_block refl t.blocks b.0 ∙ r.last in
     let ss = slots_of b (program_of t) in
     record {
+      vacant = λ h. none_first ss (ap is_some (sym first) ∙ h);
+      occupied = λ h. some_first ss (ap is_some (sym first) ∙ h);
       empty = λ h. one_empty ss (ap is_some (sym first) ∙ h);
       one = λ h q. one_only ss (slots_distinct t b law) (ap is_some (sym first) ∙ h) (sym first ∙ q ∙ last);
       more = λ f. one_more ss (λ q. f (first ∙ q ∙ sym last));

@@ -15,12 +15,12 @@ use Rattle.entities.specs.declared.Block.{Block}
 use Rattle.entities.specs.declared.nodes.Tables.{Tables}
 use Rattle.entities.specs.declared.progpoint.Order.{Order}
 use Rattle.entities.specs.declared.progpoint.ProgramPoint.{ProgramPoint}
-use Rattle.listing.proofs.Appends.{rising_at}
 use Rattle.listing.proofs.Found.{block_apart, locate, map-append}
 use Rattle.listing.proofs.Frames.{filled_right}
 use Rattle.listing.proofs.InstEdits.{inst_at, insts_cut, other_ahead}
 use Rattle.listing.proofs.Props.{sound_out}
 use Rattle.listing.proofs.Questions.{inst_reads, of_block_at, of_block_none}
+use Rattle.listing.proofs.Rises.{rising_at}
 use Rattle.listing.specs.Edits.{InstIn}
 use Rattle.listing.specs.Lawful.{AllFilled, AllRising, Held, Lawful, Rising, Sound, listed, program_of}
 

@@ -1,5 +1,5 @@
 -- When two node tables stand for a list of lines. Assumes nothing.
-use Rattle.std.specs.Prelude.{◌≡◌, ℕ, ◌<◌, List, [], ◌∷◌, map, length, Some, None, Option}
+use Rattle.std.specs.Prelude.{◌≡◌, ℕ, ◌^◌, ◌<◌, List, [], ◌∷◌, map, length, Some, None, Option}
 use Rattle.chain.specs.Table.{read_at}
 use Rattle.chain.specs.Chain.{Chain, Misses, keys_from}
 use Rattle.entities.specs.declared.Block.{Block}
@@ -69,6 +69,11 @@ pub record Represents (t : Tables) (ls : List Line) : Type 0 where
 abbrev pub Rising : ℕ → List Slot → Type 0
 Rising n [] = Unit {0}
 Rising n (s ∷ ss) = (n < s.seq) × Rising s.seq ss
+
+-- each number fits 32 bits
+abbrev pub Fitting : List Slot → Type 0
+Fitting [] = Unit {0}
+Fitting (s ∷ ss) = (s.seq < 2 ^ 32) × Fitting ss
 
 -- in every line they rise from above 0, the number of the block itself
 abbrev pub AllRising : List Line → Type 0

@@ -6,6 +6,7 @@ use Rattle.entities.specs.declared.Inst.{Inst}
 use Rattle.entities.specs.declared.nodes.InstNode.{InstNode}
 use Rattle.entities.specs.Nodes.{inst_place, inst_links, block_named, number_of}
 use Rattle.entities.specs.Program.{Slot, insts_in}
+use Rattle.listing.specs.Lawful.{Rising}
 
 -- each slot's number is in its node
 abbrev pub Written : List InstNode → List Slot → Type 0
@@ -40,3 +41,16 @@ pub record SomeRun (t : List InstNode) (first : Option Inst) : Type 0 where
 pub record SomeRunTo (t : List InstNode) (first : Option Inst) (inst : Inst) : Type 0 where
   pub ahead : List Inst
   pub run : Run t first (ahead ++ (inst ∷ []))
+
+-- inst stands in the block that begins at `first`, the slots sa ahead of it and sb behind; their numbers rise, its own left out
+pub record Placed (t : List InstNode) (first : Option Inst) (sa : List Slot) (inst : Inst) (sb : List Slot) : Type 0 where
+  pub run : Run t first (insts_in sa ++ (inst ∷ insts_in sb))
+  pub ahead : Written t sa
+  pub behind : Written t sb
+  pub rising : Rising 0 (sa ++ sb)
+
+-- inst stands somewhere in the block that begins at `first`
+pub record SomePlaced (t : List InstNode) (first : Option Inst) (inst : Inst) : Type 0 where
+  pub ahead : List Slot
+  pub behind : List Slot
+  pub placed : Placed t first ahead inst behind

@@ -30,7 +30,7 @@ put t i n h = record {
 pub unchanged : (t : List InstNode) (ss : List Slot) → Written t ss → Renumbered t t ss
 unchanged t ss w = record { spares = record { size = refl; block = λ i. refl; prev = λ i. refl; next = λ i. refl; seq = λ i m. refl }; written = w }
 
-stays : (t u : List InstNode) (ks : List Inst) (ss : List Slot) → Renumbers t u ks → Disjoint (insts_in ss) ks → Written t ss → Written u ss
+pub stays : (t u : List InstNode) (ks : List Inst) (ss : List Slot) → Renumbers t u ks → Disjoint (insts_in ss) ks → Written t ss → Written u ss
 stays t u ks [] r d w = tt
 stays t u ks (s ∷ ss) r d w = (r.seq s.inst d.0 ∙ w.0, stays t u ks ss r d.1 w.1)
 
@@ -51,6 +51,19 @@ both t u v ss rs d a b = record {
         b.spares.seq i (misses_right (Some i) (insts_in ss) (insts_in rs) cut) ∙ a.spares.seq i (misses_left (Some i) (insts_in ss) (insts_in rs) cut);
   };
   written = written_both v ss rs (stays u v (insts_in rs) ss b.spares d a.written) b.written;
+}
+
+-- some, and then the same anew
+pub again : (t u v : List InstNode) (ss rs : List Slot) → insts_in ss ≡ insts_in rs → Renumbered t u ss → Renumbered u v rs → Renumbered t v rs
+again t u v ss rs e a b = record {
+  spares = record {
+    size = b.spares.size ∙ a.spares.size;
+    block = λ i. b.spares.block i ∙ a.spares.block i;
+    prev = λ i. b.spares.prev i ∙ a.spares.prev i;
+    next = λ i. b.spares.next i ∙ a.spares.next i;
+    seq = λ i m. b.spares.seq i m ∙ a.spares.seq i (subst (λ q. Misses (Some i) q) (sym e) m);
+  };
+  written = b.written;
 }
 
 pub insts_tens : (n : ℕ) (ks : List Inst) → insts_in (tens n ks) ≡ ks

@@ -14,6 +14,8 @@ use chain::Key;
 use entities::Inst;
 use entities::nodes::{InstNode, SequenceNumber};
 
+pub mod between;
+
 /// Initial stride of new sequence numbers.
 const MAJOR_STRIDE: SequenceNumber = 10;
 

@@ -20,4 +20,4 @@ append-tables-requires c =
 pub returns : goal.returns
 returns c =
     let r = block_appended c.args.tables.now c.args.block c.args.ends _ _ c.requires.sound c.requires.ends c.requires.fresh c.append-tables.ensures.table c.append-tables.ensures.chain in
-    record { sound = r.0; program = r.1 }
+    record { sound = r.sound; program = r.program }

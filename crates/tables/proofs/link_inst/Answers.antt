@@ -6,7 +6,8 @@ use Rattle.entities.specs.Nodes.{inst_place}
 use Rattle.listing.proofs.Props.{sound_out}
 use Rattle.listing.proofs.BlockEdits.{in_table}
 use Rattle.listing.proofs.InstLaws.{last_low}
-use Rattle.listing.proofs.Landed.{block_stands, inst_linked}
+use Rattle.listing.proofs.Appends.{inst_linked}
+use Rattle.listing.proofs.Landed.{block_stands}
 use Rattle.tables.proofs.link_inst.Goals as goal
 
 pub inst_ends-old-requires : goal.inst_ends-old-requires

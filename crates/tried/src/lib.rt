@@ -1,0 +1,20 @@
+//! Cases that were tried on the handset, computed by the rules themselves: one joint fact.
+
+#![tactic(auto)]
+
+ghost use Rattle.std.specs.Prelude.{◌≡◌};
+ghost use Rattle.tried.specs.Tried.{Tried};
+
+/// How many cases were tried. The contract says what they are, and that the rules give what each of them says.
+pub fn tried_cases() -> u32
+    ensures count { result ≡ 8 }
+    ensures cases { Tried }
+{
+    computed();
+    8
+}
+
+// The cases, each computed by the rules.
+fn computed()
+    ensures { Tried }
+{}
