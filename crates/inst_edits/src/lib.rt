@@ -4,12 +4,12 @@
 
 #![tactic(auto)]
 
-ghost use Rattle.std.specs.Prelude.{◌≡◌, ◌<◌, true, false, length, Some, None};
+ghost use Rattle.std.specs.Prelude.{◌≡◌, ◌<◌, false, length, Some, None};
 ghost use Rattle.entities.specs.declared.Inst.{Inst as InstOf};
 ghost use Rattle.entities.specs.declared.nodes.Tables.{Tables as TablesOf};
 ghost use Rattle.entities.specs.Nodes.{ends_of};
 ghost use Rattle.entities.specs.Program.{remove_inst};
-ghost use Rattle.entities.specs.Reading.{inserted_block, inserted_inst, inst_block};
+ghost use Rattle.entities.specs.Reading.{inserted_inst, inst_block};
 ghost use Rattle.listing.specs.Edits.{Becomes};
 ghost use Rattle.listing.specs.Lawful.{Sound, listed, program_of};
 ghost use Rattle.inst_edits.specs.Put.{Inserted, LinkedBefore, SomeLinked};
@@ -31,7 +31,7 @@ pub fn insert_inst(tables: &mut Tables, inst: Inst, before: Inst, block: Block) 
     number_linked(tables, inst, block)
 }
 
-/// Takes `inst` out of `block`, in which it stands. Its node keeps its number.
+/// Takes `inst` out of `block`, in which it stands.
 pub fn remove_inst(tables: &mut Tables, inst: Inst, block: Block)
     requires sound { Sound tables.old }
     requires stands { inst_block inst (program_of tables.old) ≡ Some block }

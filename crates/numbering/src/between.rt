@@ -1,11 +1,10 @@
 //! The sequence number of an instruction that was just put into a block, where others may stand behind it.
 
-ghost use Rattle.std.specs.Prelude.{◌≡◌, ◌+◌, ◌^◌, ◌<◌, ◌≤◌, ltb, length, nat_lt};
+ghost use Rattle.std.specs.Prelude.{◌≡◌, ◌+◌, ◌^◌, ◌<◌, ◌≤◌, length, nat_lt};
 ghost use Rattle.chain.specs.Table.{read_at, Within};
 ghost use Rattle.entities.specs.Nodes.{inst_place, inst_links};
 ghost use Rattle.entities.specs.Numbering.{midpoint, seq_ceiling};
 ghost use Rattle.listing.specs.Numbers.{SomePlaced, SomeRun};
-ghost use Rattle.numbering.specs.Assigned.{with_number};
 ghost use Rattle.numbering.specs.Between.{AloneBetween, AloneLast, AnewBetween, AnewLast, AssignedAt, BehindAnew, Crowded, LocallyAnew, SomeFollowed, ended, seq_behind_of};
 
 use crate::{MAJOR_STRIDE, SEQ_CEILING, full_block_renumber, seq_ahead, set_seq};
@@ -155,7 +154,7 @@ fn local_end(
     limit: SequenceNumber,
     count: u32,
 ) -> Option<LocalEnd>
-    ensures { result ≡ ended (ltb seq next_seq) (nat_lt limit seq) count }
+    ensures { result ≡ ended (nat_lt seq next_seq) (nat_lt limit seq) count }
 {
     if seq < next_seq {
         return Some(LocalEnd::Settled(count));
