@@ -48,7 +48,8 @@ fn link_before(tables: &mut Tables, inst: Inst, before: Inst, block: Block)
     requires range { inst.0 < 1024 }
     requires stands { inst_block before (program_of tables.old) ≡ Some block }
     requires fresh { inserted_inst inst (program_of tables.old) ≡ false }
-    ensures { LinkedBefore tables.old tables.new inst before block }
+    ensures linked { LinkedBefore tables.old tables.new inst before block }
+    ensures some { SomeLinked tables.new inst block }
 {
     let old = fields::inst_ends(&tables.blocks, block);
     let new = chain::insert_before(&mut tables.insts, old, inst, before);
