@@ -1,7 +1,7 @@
 -- What one changed link, and then an insertion or a removal, does to linked keys; over links as functions of keys, with no table.
 -- Assumes nothing.
 use Rattle.std.proofs.Common.{◌≡◌, List, [], ◌∷◌, ◌++◌, Some, None, Option, sym, refl, ◌∙◌}
-use Rattle.chain.specs.Chain.{head_or, last_or, Misses, Distinct, Linked}
+use Rattle.chain.specs.Chain.{head_or, last_or, Misses, Distinct, Disjoint, Linked}
 use Rattle.chain.proofs.Keys.{none_some, head_or-append, misses_left, misses_right, distinct_left, distinct_right, distinct_across, disjoint_sym, disjoint_tail, disjoint_head, last_misses, head_misses, last_not, head_not}
 
 -- the links a are kept, and the links b are changed at o alone, to l
@@ -47,44 +47,49 @@ module _ {K : Type 0} {prv nxt prv' nxt' : K → Option K} where
   rehead p [] s to u d l = tt
   rehead p (x ∷ xs) s to u d l = (u.here x refl, u.kept x ∙ l.1, spare_prev u (Some x) xs s d.0 l.2)
 
--- key k, whose links are changed first, between xs and ys
-module _ {K : Type 0} {p0 x0 p1 x1 p2 x2 p3 x3 p4 x4 : K → Option K} (k : K) (xs ys : List K) where
-  pub insert_linked : Put x0 p0 x1 p1 (Some k) (last_or None xs) → Put p1 x1 p2 x2 (Some k) (head_or ys None) → Put p2 x2 p3 x3 (last_or None xs) (Some k) → Put x3 p3 x4 p4 (head_or ys None) (Some k) → Distinct (xs ++ ys) → Misses (Some k) (xs ++ ys) → Linked p0 x0 None (xs ++ ys) None → Linked p4 x4 None (xs ++ (k ∷ ys)) None
-  insert_linked u1 u2 u3 u4 d m l =
+-- four links set in turn: both of key k, to a and b, then the next of p, to c, and the previous of n, to d
+pub record Puts {K : Type 0} (prv nxt prv' nxt' : K → Option K) (k : K) (p n a b c d : Option K) : Type 0 where
+  pub prv1 : K → Option K
+  pub nxt1 : K → Option K
+  pub prv2 : K → Option K
+  pub nxt2 : K → Option K
+  pub prv3 : K → Option K
+  pub nxt3 : K → Option K
+  pub put1 : Put nxt prv nxt1 prv1 (Some k) a
+  pub put2 : Put prv1 nxt1 prv2 nxt2 (Some k) b
+  pub put3 : Put prv2 nxt2 prv3 nxt3 p c
+  pub put4 : Put nxt3 prv3 nxt' prv' n d
+
+-- at the end of xs and the head of ys, between which k is put in or taken out
+module _ {K : Type 0} {prv nxt prv' nxt' : K → Option K} (k : K) (xs ys : List K) where
+  own : {a b c d : Option K} → Puts prv nxt prv' nxt' k (last_or None xs) (head_or ys None) a b c d → Misses (Some k) xs → Misses (Some k) ys → (prv' k ≡ a) × (nxt' k ≡ b)
+  own u mx my = (
+    u.put4.other k (head_not k ys my) ∙ u.put3.kept k ∙ u.put2.kept k ∙ u.put1.here k refl,
+    u.put4.kept k ∙ u.put3.other k (last_not k None xs (none_some k) mx) ∙ u.put2.here k refl,
+  )
+
+  parts : {a b c d : Option K} → Puts prv nxt prv' nxt' k (last_or None xs) (head_or ys None) a b c d → (s o : Option K) → Misses (Some k) xs → Misses (Some k) ys → Distinct xs → Distinct ys → Disjoint xs ys → Linked prv nxt None xs s → Linked prv nxt o ys None → Linked prv' nxt' None xs c × Linked prv' nxt' d ys None
+  parts {c = c} {d = d} u s o mx my dx dy dj lx ly =
+      let lx2 = spare_next u.put2 None xs s mx (spare_prev u.put1 None xs s mx lx) in
+      let ly2 = spare_next u.put2 o ys None my (spare_prev u.put1 o ys None my ly) in
+      let lx3 = relast None xs s c u.put3 dx lx2 in
+      let ly3 = spare_next u.put3 o ys None (last_misses xs ys dj) ly2 in
+      (spare_prev u.put4 None xs c (head_misses ys xs (disjoint_sym xs ys dj)) lx3, rehead o ys None d u.put4 dy ly3)
+
+  pub insert_linked : Puts prv nxt prv' nxt' k (last_or None xs) (head_or ys None) (last_or None xs) (head_or ys None) (Some k) (Some k) → Distinct (xs ++ ys) → Misses (Some k) (xs ++ ys) → Linked prv nxt None (xs ++ ys) None → Linked prv' nxt' None (xs ++ (k ∷ ys)) None
+  insert_linked u d m l =
       let mx = misses_left (Some k) xs ys m in
       let my = misses_right (Some k) xs ys m in
-      let dj = distinct_across xs ys d in
-      let n : Option K = head_or ys None in
-      let b : Option K = last_or None xs in
-      let lx2 = spare_next u2 None xs n mx (spare_prev u1 None xs n mx (split_left p0 x0 None xs ys None l)) in
-      let ly2 = spare_next u2 b ys None my (spare_prev u1 b ys None my (split_right p0 x0 None xs ys None l)) in
-      let lx3 = relast None xs n (Some k) u3 (distinct_left xs ys d) lx2 in
-      let ly3 = spare_next u3 b ys None (last_misses xs ys dj) ly2 in
-      let lx4 = spare_prev u4 None xs (Some k) (head_misses ys xs (disjoint_sym xs ys dj)) lx3 in
-      let ly4 = rehead b ys None (Some k) u4 (distinct_right xs ys d) ly3 in
-      let back = u4.other k (head_not k ys my) ∙ u3.kept k ∙ u2.kept k ∙ u1.here k refl in
-      let on = u4.kept k ∙ u3.other k (last_not k None xs (none_some k) mx) ∙ u2.here k refl in
-      joined p4 x4 None xs (k ∷ ys) None lx4 (back, on, ly4)
+      let both = parts u _ _ mx my (distinct_left xs ys d) (distinct_right xs ys d) (distinct_across xs ys d) (split_left prv nxt None xs ys None l) (split_right prv nxt None xs ys None l) in
+      let at = own u mx my in
+      joined prv' nxt' None xs (k ∷ ys) None both.0 (at.0, at.1, both.1)
 
-  pub remove_linked : Put x0 p0 x1 p1 (Some k) None → Put p1 x1 p2 x2 (Some k) None → Put p2 x2 p3 x3 (last_or None xs) (head_or ys None) → Put x3 p3 x4 p4 (head_or ys None) (last_or None xs) → Distinct (xs ++ (k ∷ ys)) → Linked p0 x0 None (xs ++ (k ∷ ys)) None → Linked p4 x4 None (xs ++ ys) None
-  remove_linked u1 u2 u3 u4 d l =
+  -- k is left with neither link
+  pub remove_linked : Puts prv nxt prv' nxt' k (last_or None xs) (head_or ys None) None None (head_or ys None) (last_or None xs) → Distinct (xs ++ (k ∷ ys)) → Linked prv nxt None (xs ++ (k ∷ ys)) None → Linked prv' nxt' None (xs ++ ys) None × (prv' k ≡ None) × (nxt' k ≡ None)
+  remove_linked u d l =
       let across = distinct_across xs (k ∷ ys) d in
       let mx = disjoint_head xs k ys across in
       let dky = distinct_right xs (k ∷ ys) d in
-      let dj = disjoint_tail xs k ys across in
-      let n : Option K = head_or ys None in
-      let b : Option K = last_or None xs in
-      let lx2 = spare_next u2 None xs (Some k) mx (spare_prev u1 None xs (Some k) mx (split_left p0 x0 None xs (k ∷ ys) None l)) in
-      let ly2 = spare_next u2 (Some k) ys None dky.0 (spare_prev u1 (Some k) ys None dky.0 (split_right p0 x0 None xs (k ∷ ys) None l).2) in
-      let lx3 = relast None xs (Some k) n u3 (distinct_left xs (k ∷ ys) d) lx2 in
-      let ly3 = spare_next u3 (Some k) ys None (last_misses xs ys dj) ly2 in
-      let lx4 = spare_prev u4 None xs n (head_misses ys xs (disjoint_sym xs ys dj)) lx3 in
-      let ly4 = rehead (Some k) ys None b u4 dky.1 ly3 in
-      joined p4 x4 None xs ys None lx4 ly4
-
-  -- k is left with neither link
-  pub remove_loose : Put x0 p0 x1 p1 (Some k) None → Put p1 x1 p2 x2 (Some k) None → Put p2 x2 p3 x3 (last_or None xs) (head_or ys None) → Put x3 p3 x4 p4 (head_or ys None) (last_or None xs) → Distinct (xs ++ (k ∷ ys)) → (p4 k ≡ None) × (x4 k ≡ None)
-  remove_loose u1 u2 u3 u4 d =
-      let mx = disjoint_head xs k ys (distinct_across xs (k ∷ ys) d) in
-      let my = (distinct_right xs (k ∷ ys) d).0 in
-      (u4.other k (head_not k ys my) ∙ u3.kept k ∙ u2.kept k ∙ u1.here k refl, u4.kept k ∙ u3.other k (last_not k None xs (none_some k) mx) ∙ u2.here k refl)
+      let both = parts u _ _ mx dky.0 (distinct_left xs (k ∷ ys) d) dky.1 (disjoint_tail xs k ys across) (split_left prv nxt None xs (k ∷ ys) None l) (split_right prv nxt None xs (k ∷ ys) None l).2 in
+      let at = own u mx dky.0 in
+      (joined prv' nxt' None xs ys None both.0 both.1, at.0, at.1)

@@ -6,7 +6,7 @@ use Rattle.chain.specs.Table.{alter, alter_at, read_at, Within, if_none, inserte
 use Rattle.chain.specs.Chain.{head_or, last_or, Misses, AllWithin, Chain, Parted, Inserts, Removes, Cuts}
 use Rattle.chain.proofs.Keys.{none_some, some_inj, last_or-append, misses_left, misses_right, distinct_left, distinct_right, distinct_across, distinct_both, disjoint_cons, disjoint_left, disjoint_right, last_misses, head_misses, disjoint_tail, disjoint_head, within_left, within_right, within_both, last_within, head_within}
 use Rattle.chain.proofs.Walks.{chain_walked}
-use Rattle.chain.proofs.Chained.{Put, frame, insert_linked, remove_linked, remove_loose, split_left, split_right, spare_next, spare_prev, relast, rehead}
+use Rattle.chain.proofs.Chained.{Put, Puts, frame, insert_linked, remove_linked, split_left, split_right, spare_next, spare_prev, relast, rehead}
 
 -- ---- one node changed
 
@@ -103,116 +103,103 @@ module _ {N K : Type 0} {place : K → ℕ} (apart : (a b : K) → place a ≡ p
   put_next : (t : List N) (o l : Option K) → Within place (length t) o → Put (λ k. read_at links.prev_of t (place k)) (λ k. read_at links.next_of t (place k)) (λ k. read_at links.prev_of (alter_at place t o (λ n. links.with_next n l)) (place k)) (λ k. read_at links.next_of (alter_at place t o (λ n. links.with_next n l)) (place k)) o l
   put_next t o l h = put apart links.prev_of links.next_of (λ n. links.with_next n l) l (λ n. links.prev_kept n l) (λ n. links.next_set n l) t o h
 
-  pub inserted_chain : (t : List N) (e : Ends K) (k : K) (xs ys : List K) → place k < length t → Misses (Some k) (xs ++ ys) → Chain place links t e (xs ++ ys) → Chain place links (inserted_table place links t (last_or None xs) (head_or ys None) k) (inserted_ends e (last_or None xs) (head_or ys None) k) (xs ++ (k ∷ ys))
+  -- both links of key k set, then the next of p and the previous of n: an insertion and a removal are both of this form
+  abbrev relinked : List N → K → (p n a b c d : Option K) → List N
+  relinked t k p n a b c d =
+      let t1 = alter_at place t (Some k) (λ m. links.with_prev m a) in
+      let t2 = alter_at place t1 (Some k) (λ m. links.with_next m b) in
+      let t3 = alter_at place t2 p (λ m. links.with_next m c) in
+      alter_at place t3 n (λ m. links.with_prev m d)
+
+  module _ (t : List N) (k : K) (p n a b c d : Option K) where
+    puts : place k < length t → Within place (length t) p → Within place (length t) n → Puts (λ q. read_at links.prev_of t (place q)) (λ q. read_at links.next_of t (place q)) (λ q. read_at links.prev_of (relinked t k p n a b c d) (place q)) (λ q. read_at links.next_of (relinked t k p n a b c d) (place q)) k p n a b c d
+    puts hk hp hn =
+        let t1 : List N = alter_at place t (Some k) (λ m. links.with_prev m a) in
+        let t2 : List N = alter_at place t1 (Some k) (λ m. links.with_next m b) in
+        let t3 : List N = alter_at place t2 p (λ m. links.with_next m c) in
+        let in1 = within_after place (λ m. links.with_prev m a) t (Some k) in
+        let in2 = within_after place (λ m. links.with_next m b) t1 (Some k) in
+        let in3 = within_after place (λ m. links.with_next m c) t2 p in
+        record {
+          prv1 = _;
+          nxt1 = _;
+          prv2 = _;
+          nxt2 = _;
+          prv3 = _;
+          nxt3 = _;
+          put1 = put_prev t (Some k) a hk;
+          put2 = put_next t1 (Some k) b (in1 (Some k) hk);
+          put3 = put_next t2 p c (in2 p (in1 p hp));
+          put4 = put_prev t3 n d (in3 n (in2 n (in1 n hn)));
+        }
+
+    relinked_within : (ks : List K) → AllWithin place (length t) ks → AllWithin place (length (relinked t k p n a b c d)) ks
+    relinked_within ks w =
+        let keep = all_within_after place in
+        keep _ _ n ks (keep _ _ p ks (keep _ _ (Some k) ks (keep _ t (Some k) ks w)))
+
+    -- another chain stays, if it has none of the keys at hand
+    relinked_spares : (e : Ends K) (ls : List K) → Misses (Some k) ls → Misses p ls → Misses n ls → Chain place links t e ls → Chain place links (relinked t k p n a b c d) e ls
+    relinked_spares e ls mk mp mn h =
+        let go = spared apart links in
+        go _ _ n e ls mn (go _ _ p e ls mp (go _ _ (Some k) e ls mk (go _ t (Some k) e ls mk h)))
+
+  inserted_chain : (t : List N) (e : Ends K) (k : K) (xs ys : List K) → place k < length t → Misses (Some k) (xs ++ ys) → Chain place links t e (xs ++ ys) → Chain place links (inserted_table place links t (last_or None xs) (head_or ys None) k) (inserted_ends e (last_or None xs) (head_or ys None) k) (xs ++ (k ∷ ys))
   inserted_chain t e k xs ys h m c =
       let p : Option K = last_or None xs in
       let n : Option K = head_or ys None in
-      let back : Option K → N → N = λ l m. links.with_prev m l in
-      let on : Option K → N → N = λ l m. links.with_next m l in
-      let t1 : List N = alter_at place t (Some k) (back p) in
-      let t2 : List N = alter_at place t1 (Some k) (on n) in
-      let t3 : List N = alter_at place t2 p (on (Some k)) in
       let ax = within_left place (length t) xs ys c.within in
       let ay = within_right place (length t) xs ys c.within in
-      let wp = last_within place (length t) xs ax in
-      let wn = head_within place (length t) ys ay in
-      let h1 = within_after place (back p) t (Some k) (Some k) h in
-      let wp2 = within_after place (on n) t1 (Some k) p (within_after place (back p) t (Some k) p wp) in
-      let wn3 = within_after place (on (Some k)) t2 p n (within_after place (on n) t1 (Some k) n (within_after place (back p) t (Some k) n wn)) in
-      let all = within_both place (length t) xs (k ∷ ys) ax (h, ay) in
-      let keep = all_within_after place in
+      let u = puts t k p n p n (Some k) (Some k) h (last_within place (length t) xs ax) (head_within place (length t) ys ay) in
       record {
         first = inserted_first e k xs ys c.first;
         last = inserted_last e k xs ys c.last;
-        linked = insert_linked k xs ys (put_prev t (Some k) p h) (put_next t1 (Some k) n h1) (put_next t2 p (Some k) wp2) (put_prev t3 n (Some k) wn3) c.distinct m c.linked;
+        linked = insert_linked k xs ys u c.distinct m c.linked;
         distinct = distinct_both xs (k ∷ ys) (distinct_left xs ys c.distinct) (misses_right (Some k) xs ys m, distinct_right xs ys c.distinct) (disjoint_cons xs k ys (misses_left (Some k) xs ys m) (distinct_across xs ys c.distinct));
-        within = keep (back (Some k)) t3 n (xs ++ (k ∷ ys)) (keep (on (Some k)) t2 p (xs ++ (k ∷ ys)) (keep (on n) t1 (Some k) (xs ++ (k ∷ ys)) (keep (back p) t (Some k) (xs ++ (k ∷ ys)) all)));
+        within = relinked_within t k p n p n (Some k) (Some k) (xs ++ (k ∷ ys)) (within_both place (length t) xs (k ∷ ys) ax (h, ay));
       }
 
-  pub removed_chain : (t : List N) (e : Ends K) (k : K) (xs ys : List K) → Chain place links t e (xs ++ (k ∷ ys)) → Chain place links (removed_table place links t (last_or None xs) (head_or ys None) k) (removed_ends e (last_or None xs) (head_or ys None)) (xs ++ ys)
+  -- the chain without k, and k with neither link
+  removed_chain : (t : List N) (e : Ends K) (k : K) (xs ys : List K) → Chain place links t e (xs ++ (k ∷ ys)) → let u : List N = removed_table place links t (last_or None xs) (head_or ys None) k in Chain place links u (removed_ends e (last_or None xs) (head_or ys None)) (xs ++ ys) × (read_at links.prev_of u (place k) ≡ None) × (read_at links.next_of u (place k) ≡ None)
   removed_chain t e k xs ys c =
       let p : Option K = last_or None xs in
       let n : Option K = head_or ys None in
-      let back : Option K → N → N = λ l m. links.with_prev m l in
-      let on : Option K → N → N = λ l m. links.with_next m l in
-      let t1 : List N = alter_at place t (Some k) (back None) in
-      let t2 : List N = alter_at place t1 (Some k) (on None) in
-      let t3 : List N = alter_at place t2 p (on n) in
       let ax = within_left place (length t) xs (k ∷ ys) c.within in
       let aky = within_right place (length t) xs (k ∷ ys) c.within in
-      let wp = last_within place (length t) xs ax in
-      let wn = head_within place (length t) ys aky.1 in
-      let h1 = within_after place (back None) t (Some k) (Some k) aky.0 in
-      let wp2 = within_after place (on None) t1 (Some k) p (within_after place (back None) t (Some k) p wp) in
-      let wn3 = within_after place (on n) t2 p n (within_after place (on None) t1 (Some k) n (within_after place (back None) t (Some k) n wn)) in
-      let all = within_both place (length t) xs ys ax aky.1 in
+      let u = puts t k p n None None n p aky.0 (last_within place (length t) xs ax) (head_within place (length t) ys aky.1) in
       let dky = distinct_right xs (k ∷ ys) c.distinct in
-      let across = distinct_across xs (k ∷ ys) c.distinct in
-      let keep = all_within_after place in
-      record {
-        first = removed_first e k xs ys c.first;
-        last = removed_last e k xs ys c.last;
-        linked = remove_linked k xs ys (put_prev t (Some k) None aky.0) (put_next t1 (Some k) None h1) (put_next t2 p n wp2) (put_prev t3 n p wn3) c.distinct c.linked;
-        distinct = distinct_both xs ys (distinct_left xs (k ∷ ys) c.distinct) dky.1 (disjoint_tail xs k ys across);
-        within = keep (back p) t3 n (xs ++ ys) (keep (on n) t2 p (xs ++ ys) (keep (on None) t1 (Some k) (xs ++ ys) (keep (back None) t (Some k) (xs ++ ys) all)));
-      }
-
-  -- another chain stays, if it has none of the keys at hand
-  pub inserted_spares : (t : List N) (p n : Option K) (k : K) (e : Ends K) (ls : List K) → Misses (Some k) ls → Misses p ls → Misses n ls → Chain place links t e ls → Chain place links (inserted_table place links t p n k) e ls
-  inserted_spares t p n k e ls mk mp mn c =
-      let go = spared apart links in
-      go _ _ n e ls mn (go _ _ p e ls mp (go _ _ (Some k) e ls mk (go _ _ (Some k) e ls mk c)))
-
-  pub removed_spares : (t : List N) (p n : Option K) (k : K) (e : Ends K) (ls : List K) → Misses (Some k) ls → Misses p ls → Misses n ls → Chain place links t e ls → Chain place links (removed_table place links t p n k) e ls
-  removed_spares t p n k e ls mk mp mn c =
-      let go = spared apart links in
-      go _ _ n e ls mn (go _ _ p e ls mp (go _ _ (Some k) e ls mk (go _ _ (Some k) e ls mk c)))
-
-  removed_loose : (t : List N) (e : Ends K) (k : K) (xs ys : List K) → Chain place links t e (xs ++ (k ∷ ys)) → let u : List N = removed_table place links t (last_or None xs) (head_or ys None) k in (read_at links.prev_of u (place k) ≡ None) × (read_at links.next_of u (place k) ≡ None)
-  removed_loose t e k xs ys c =
-      let p : Option K = last_or None xs in
-      let n : Option K = head_or ys None in
-      let back : Option K → N → N = λ l m. links.with_prev m l in
-      let on : Option K → N → N = λ l m. links.with_next m l in
-      let t1 : List N = alter_at place t (Some k) (back None) in
-      let t2 : List N = alter_at place t1 (Some k) (on None) in
-      let t3 : List N = alter_at place t2 p (on n) in
-      let aky = within_right place (length t) xs (k ∷ ys) c.within in
-      let wp = last_within place (length t) xs (within_left place (length t) xs (k ∷ ys) c.within) in
-      let wn = head_within place (length t) ys aky.1 in
-      let h1 = within_after place (back None) t (Some k) (Some k) aky.0 in
-      let wp2 = within_after place (on None) t1 (Some k) p (within_after place (back None) t (Some k) p wp) in
-      let wn3 = within_after place (on n) t2 p n (within_after place (on None) t1 (Some k) n (within_after place (back None) t (Some k) n wn)) in
-      remove_loose k xs ys (put_prev t (Some k) None aky.0) (put_next t1 (Some k) None h1) (put_next t2 p n wp2) (put_prev t3 n p wn3) c.distinct
+      let done = remove_linked k xs ys u c.distinct c.linked in (
+        record {
+          first = removed_first e k xs ys c.first;
+          last = removed_last e k xs ys c.last;
+          linked = done.0;
+          distinct = distinct_both xs ys (distinct_left xs (k ∷ ys) c.distinct) dky.1 (disjoint_tail xs k ys (distinct_across xs (k ∷ ys) c.distinct));
+          within = relinked_within t k p n None None n p (xs ++ ys) (within_both place (length t) xs ys ax aky.1);
+        },
+        done.1,
+        done.2,
+      )
 
   pub inserts : (t : List N) (e : Ends K) (k : K) (p n : Option K) (t' : List N) (e' : Ends K) → place k < length t → t' ≡ inserted_table place links t p n k → e' ≡ inserted_ends e p n k → Inserts place links t e k p n t' e'
   inserts t e k p n t' e' h a b xs ys ep en c m =
-      let q : Option K = last_or None xs in
-      let r : Option K = head_or ys None in
-      let table : t' ≡ inserted_table place links t q r k = a ∙ ap (λ o. inserted_table place links t o n k) ep ∙ ap (λ o. inserted_table place links t q o k) en in
-      let ends : e' ≡ inserted_ends e q r k = b ∙ ap (λ o. inserted_ends e o n k) ep ∙ ap (λ o. inserted_ends e q o k) en in
-      let made : Chain place links t' e' (xs ++ (k ∷ ys)) = subst (λ u. Chain place links u e' (xs ++ (k ∷ ys))) (sym table) (subst (λ f. Chain place links (inserted_table place links t q r k) f (xs ++ (k ∷ ys))) (sym ends) (inserted_chain t e k xs ys h m c)) in
-      record {
+      let made = inserted_chain t e k xs ys h m c in
+      rw (a, b, ep, en) (record {
         chain = made;
         walked = chain_walked made;
-        others = λ d ls other far mk. subst (λ u. Chain place links u d ls) (sym table) (inserted_spares t q r k d ls mk (last_misses xs ls (disjoint_left xs ys ls far)) (head_misses ys ls (disjoint_right xs ys ls far)) other);
-      }
+        others = λ d ls other far mk. relinked_spares t k _ _ _ _ _ _ d ls mk (last_misses xs ls (disjoint_left xs ys ls far)) (head_misses ys ls (disjoint_right xs ys ls far)) other;
+      })
 
   pub removes : (t : List N) (e : Ends K) (k : K) (p n : Option K) (t' : List N) (e' : Ends K) → t' ≡ removed_table place links t p n k → e' ≡ removed_ends e p n → Removes place links t e k p n t' e'
   removes t e k p n t' e' a b xs ys ep en c =
-      let q : Option K = last_or None xs in
-      let r : Option K = head_or ys None in
-      let table : t' ≡ removed_table place links t q r k = a ∙ ap (λ o. removed_table place links t o n k) ep ∙ ap (λ o. removed_table place links t q o k) en in
-      let ends : e' ≡ removed_ends e q r = b ∙ ap (λ o. removed_ends e o n) ep ∙ ap (λ o. removed_ends e q o) en in
-      let loose = removed_loose t e k xs ys c in
-      let made : Chain place links t' e' (xs ++ ys) = subst (λ u. Chain place links u e' (xs ++ ys)) (sym table) (subst (λ f. Chain place links (removed_table place links t q r k) f (xs ++ ys)) (sym ends) (removed_chain t e k xs ys c)) in (
+      let done = removed_chain t e k xs ys c in
+      rw (a, b, ep, en) (
         record {
-          chain = made;
-          walked = chain_walked made;
-          others = λ d ls other far mk. subst (λ u. Chain place links u d ls) (sym table) (removed_spares t q r k d ls mk (last_misses xs ls (disjoint_left xs (k ∷ ys) ls far)) (head_misses ys ls (disjoint_right xs (k ∷ ys) ls far).1) other);
+          chain = done.0;
+          walked = chain_walked done.0;
+          others = λ d ls other far mk. relinked_spares t k _ _ _ _ _ _ d ls mk (last_misses xs ls (disjoint_left xs (k ∷ ys) ls far)) (head_misses ys ls (disjoint_right xs (k ∷ ys) ls far).1) other;
         },
-        subst (λ u. read_at links.prev_of u (place k) ≡ None) (sym table) loose.0,
-        subst (λ u. read_at links.next_of u (place k) ≡ None) (sym table) loose.1,
+        done.1,
+        done.2,
       )
 
   -- ---- a cut
@@ -263,4 +250,4 @@ module _ {N K : Type 0} {place : K → ℕ} (apart : (a b : K) → place a ≡ p
   pub cuts : (t : List N) (k : K) (p : Option K) (t' : List N) → p ≡ read_at links.prev_of t (place k) → t' ≡ cut_table place links t p k → Cuts place links t k t'
   cuts t k p t' ep a e xs ys c =
       let at = (split_right (λ q. read_at links.prev_of t (place q)) (λ q. read_at links.next_of t (place q)) None xs (k ∷ ys) None c.linked).0 in
-      subst (λ u. Parted place links t xs k ys e.last u) (sym (a ∙ ap (λ o. cut_table place links t o k) (ep ∙ at))) (cut_chains t k e xs ys c)
+      rw (a, ep, at) (cut_chains t k e xs ys c)

@@ -1,15 +1,10 @@
 -- Lists of keys: ends, and which keys they miss. Assumes nothing.
-use Rattle.std.proofs.Common.{◌≡◌, ℕ, List, [], ◌∷◌, ◌++◌, Some, None, Option, sym, refl, arith}
+use Rattle.std.proofs.Common.{◌≡◌, ℕ, List, [], ◌∷◌, ◌++◌, Some, None, Option, sym, refl}
+pub use Rattle.std.proofs.lemmas.Option.{none-some as none_some, same_Some as some_inj}
 use Rattle.chain.specs.Table.{Within}
 use Rattle.chain.specs.Chain.{head_or, last_or, Misses, Distinct, Disjoint, AllWithin}
 
 module _ {K : Type 0} where
-  pub none_some : (k : K) → ◌≡◌ {A = Option K} None (Some k) → ⊥
-  none_some k e = let z : ◌≡◌ {A = ℕ} 0 1 = cc in omega arith
-
-  pub some_inj : (a b : K) → ◌≡◌ {A = Option K} (Some a) (Some b) → a ≡ b
-  some_inj a b e = cc
-
   pub head_or-append : (xs ys : List K) (s : Option K) → head_or (xs ++ ys) s ≡ head_or xs (head_or ys s)
   head_or-append [] ys s = refl
   head_or-append (x ∷ xs) ys s = refl

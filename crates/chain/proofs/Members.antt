@@ -4,7 +4,7 @@ use Rattle.chain.specs.Links.{Links}
 use Rattle.chain.specs.declared.Ends.{Ends}
 use Rattle.chain.specs.Table.{alter, alter_at, read_at, inserted_table, removed_table, cut_table}
 use Rattle.chain.specs.Chain.{head_or, Misses, Linked, Chain}
-use Rattle.chain.proofs.Keys.{none_some, some_inj, head_not}
+use Rattle.chain.proofs.Keys.{none_some, some_inj}
 use Rattle.chain.proofs.Edits.{link_spared, read_kept, length-alter_at}
 
 -- behind another key each has a link back
@@ -25,9 +25,6 @@ map-alter f field h (n ∷ ns) (suc i) = ap (λ rest. field n ∷ rest) (map-alt
 module _ {N K : Type 0} {place : K → ℕ} {links : Links N K} {t : List N} {e : Ends K} {ks : List K} (c : Chain place links t e ks) (k : K) where
   pub not_in : (e.first ≡ Some k → ⊥) → read_at links.prev_of t (place k) ≡ None → Misses (Some k) ks
   not_in f h = misses_by (λ q. read_at links.prev_of t (place q)) (λ q. read_at links.next_of t (place q)) k ks (λ q. f (c.first ∙ q)) h c.linked
-
-  pub first_in : e.first ≡ Some k → Misses (Some k) ks → ⊥
-  first_in h m = head_not k ks m (sym c.first ∙ h)
 
 -- a reading of a node that is none of those at hand stays
 module _ {N K : Type 0} {place : K → ℕ} (apart : (a b : K) → place a ≡ place b → a ≡ b) (links : Links N K) {A : Type 0} (link : N → Option A) (t : List N) (p n : Option K) (k x : K) (hp : p ≡ Some x → ⊥) (hn : n ≡ Some x → ⊥) (hk : Some k ≡ Some x → ⊥) where

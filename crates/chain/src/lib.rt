@@ -4,10 +4,11 @@
 
 #![tactic(auto)]
 
-ghost use Rattle.std.specs.Prelude.{◌≡◌, ℕ, ◌<◌, length, Some, None};
+ghost use Rattle.std.specs.Prelude.{◌≡◌, ℕ, ◌<◌, length, Some, None, Option};
+ghost use Rattle.std.specs.Fn.{FnOnceReturnsAtMut};
 ghost use Rattle.chain.specs.Links.{Links};
 ghost use Rattle.chain.specs.Chain.{Inserts, Removes, Cuts};
-ghost use Rattle.chain.specs.Table.{alter_at, read_at, if_none, Within, inserted_table, inserted_ends, removed_table, removed_ends, cut_table};
+ghost use Rattle.chain.specs.Table.{alter_at, read_at, Within, inserted_table, inserted_ends, removed_table, removed_ends, cut_table};
 
 /// The number by which a table names its nodes.
 pub trait Key: Copy {
@@ -49,6 +50,10 @@ pub struct Ends<K> {
     pub last: Option<K>,
 }
 
+// The operations take the slice and the ends apart, and no struct that holds both: a rule of the project has them written over a slice
+// of any kind of node, as a table that came from elsewhere is. So the links and keys that they touch have to lie inside it, and no type
+// says so: an `Ends` has no table.
+
 /// Puts `key` at the end of the chain.
 pub fn append<N: LinkedNode>(nodes: &mut [N], ends: Ends<N::Key>, key: N::Key) -> Ends<N::Key>
     requires key { N.Key.place key < length nodes.old }
@@ -74,7 +79,7 @@ pub fn insert_before<N: LinkedNode>(
     ensures ends { result ≡ inserted_ends ends (read_at N.links.prev_of nodes.old (N.Key.place before)) (Some before) key }
     ensures chain { Inserts N.Key.place N.links nodes.old ends key (read_at N.links.prev_of nodes.old (N.Key.place before)) (Some before) nodes.new result }
 {
-    let prev = prev_of(nodes, before);
+    let prev = node_at(nodes, before).prev();
     put_between(nodes, ends, prev, Some(before), key)
 }
 
@@ -92,7 +97,7 @@ pub fn insert_after<N: LinkedNode>(
     ensures ends { result ≡ inserted_ends ends (Some after) (read_at N.links.next_of nodes.old (N.Key.place after)) key }
     ensures chain { Inserts N.Key.place N.links nodes.old ends key (Some after) (read_at N.links.next_of nodes.old (N.Key.place after)) nodes.new result }
 {
-    let next = next_of(nodes, after);
+    let next = node_at(nodes, after).next();
     put_between(nodes, ends, Some(after), next, key)
 }
 
@@ -105,9 +110,8 @@ pub fn remove<N: LinkedNode>(nodes: &mut [N], ends: Ends<N::Key>, key: N::Key) -
     ensures ends { result ≡ removed_ends ends (read_at N.links.prev_of nodes.old (N.Key.place key)) (read_at N.links.next_of nodes.old (N.Key.place key)) }
     ensures chain { Removes N.Key.place N.links nodes.old ends key (read_at N.links.prev_of nodes.old (N.Key.place key)) (read_at N.links.next_of nodes.old (N.Key.place key)) nodes.new result }
 {
-    let prev = prev_of(nodes, key);
-    let next = next_of(nodes, key);
-    take_between(nodes, ends, prev, next, key)
+    let node = node_at(nodes, key);
+    take_between(nodes, ends, node.prev(), node.next(), key)
 }
 
 /// Parts the chain directly ahead of `key`, and gives the key that was ahead of it.
@@ -118,7 +122,7 @@ pub fn cut<N: LinkedNode>(nodes: &mut [N], key: N::Key) -> Option<N::Key>
     ensures table { nodes.new ≡ cut_table N.Key.place N.links nodes.old (read_at N.links.prev_of nodes.old (N.Key.place key)) key }
     ensures chain { Cuts N.Key.place N.links nodes.old key nodes.new }
 {
-    let prev = prev_of(nodes, key);
+    let prev = node_at(nodes, key).prev();
     cut_between(nodes, prev, key);
     prev
 }
@@ -138,10 +142,18 @@ fn put_between<N: LinkedNode>(
     ensures ends { result ≡ inserted_ends ends prev next key }
     ensures chain { Inserts N.Key.place N.links nodes.old ends key prev next nodes.new result }
 {
-    link_between(nodes, ends, prev, next, key)
+    let here = Some(key);
+    alter(nodes, here, |node| node.set_prev(prev));
+    alter(nodes, here, |node| node.set_next(next));
+    alter(nodes, prev, |node| node.set_next(here));
+    alter(nodes, next, |node| node.set_prev(here));
+    Ends {
+        first: if prev.is_none() { here } else { ends.first },
+        last: if next.is_none() { here } else { ends.last },
+    }
 }
 
-// Takes `key` out from between `prev` and `next`, either of which may be absent.
+// Takes `key` out from between `prev` and `next`, either of which may be absent, and leaves it with neither link.
 fn take_between<N: LinkedNode>(
     nodes: &mut [N],
     ends: Ends<N::Key>,
@@ -156,7 +168,14 @@ fn take_between<N: LinkedNode>(
     ensures ends { result ≡ removed_ends ends prev next }
     ensures chain { Removes N.Key.place N.links nodes.old ends key prev next nodes.new result }
 {
-    unlink_between(nodes, ends, prev, next, key)
+    alter(nodes, Some(key), |node| node.set_prev(None));
+    alter(nodes, Some(key), |node| node.set_next(None));
+    alter(nodes, prev, |node| node.set_next(next));
+    alter(nodes, next, |node| node.set_prev(prev));
+    Ends {
+        first: if prev.is_none() { next } else { ends.first },
+        last: if next.is_none() { prev } else { ends.last },
+    }
 }
 
 // Parts `prev`, which may be absent, from `key`, which it is directly ahead of.
@@ -167,98 +186,26 @@ fn cut_between<N: LinkedNode>(nodes: &mut [N], prev: Option<N::Key>, key: N::Key
     ensures table { nodes.new ≡ cut_table N.Key.place N.links nodes.old prev key }
     ensures chain { Cuts N.Key.place N.links nodes.old key nodes.new }
 {
-    link_next(nodes, prev, None);
-    link_prev(nodes, Some(key), None);
+    alter(nodes, prev, |node| node.set_next(None));
+    alter(nodes, Some(key), |node| node.set_prev(None));
 }
 
-// Links `key` in between `prev` and `next`, either of which may be absent.
-fn link_between<N: LinkedNode>(
-    nodes: &mut [N],
-    ends: Ends<N::Key>,
-    prev: Option<N::Key>,
-    next: Option<N::Key>,
-    key: N::Key,
-) -> Ends<N::Key>
-    requires key { N.Key.place key < length nodes.old }
-    requires prev { Within N.Key.place (length nodes.old) prev }
-    requires next { Within N.Key.place (length nodes.old) next }
-    ensures table { nodes.new ≡ inserted_table N.Key.place N.links nodes.old prev next key }
-    ensures ends { result ≡ inserted_ends ends prev next key }
-{
-    link_prev(nodes, Some(key), prev);
-    link_next(nodes, Some(key), next);
-    link_next(nodes, prev, Some(key));
-    link_prev(nodes, next, Some(key));
-    let first = at_end(prev, Some(key), ends.first);
-    let last = at_end(next, Some(key), ends.last);
-    Ends { first, last }
-}
-
-// Links `prev` and `next` to each other, either of which may be absent, and `key` to nothing.
-fn unlink_between<N: LinkedNode>(
-    nodes: &mut [N],
-    ends: Ends<N::Key>,
-    prev: Option<N::Key>,
-    next: Option<N::Key>,
-    key: N::Key,
-) -> Ends<N::Key>
-    requires key { N.Key.place key < length nodes.old }
-    requires prev { Within N.Key.place (length nodes.old) prev }
-    requires next { Within N.Key.place (length nodes.old) next }
-    ensures table { nodes.new ≡ removed_table N.Key.place N.links nodes.old prev next key }
-    ensures ends { result ≡ removed_ends ends prev next }
-{
-    link_prev(nodes, Some(key), None);
-    link_next(nodes, Some(key), None);
-    link_next(nodes, prev, next);
-    link_prev(nodes, next, prev);
-    let first = at_end(prev, next, ends.first);
-    let last = at_end(next, prev, ends.last);
-    Ends { first, last }
-}
-
-// The end of a chain on the side of `neighbour`: `new` where there is none, else the `old` one.
-fn at_end<K: Copy>(neighbour: Option<K>, new: Option<K>, old: Option<K>) -> Option<K>
-    ensures { result ≡ if_none neighbour new old }
-{
-    match neighbour {
-        None => new,
-        Some(_) => old,
-    }
-}
-
-// The node at `at`, if there is one, gets `link` to the one ahead of it.
-fn link_prev<N: LinkedNode>(nodes: &mut [N], at: Option<N::Key>, link: Option<N::Key>)
-    requires { Within N.Key.place (length nodes.old) at }
-    ensures { nodes.new ≡ alter_at N.Key.place nodes.old at (λ n. N.links.with_prev n link) }
+// Changes the node at `at`, if there is one, and no other.
+fn alter<N: LinkedNode, F: FnOnce(&mut N)>(nodes: &mut [N], at: Option<N::Key>, change: F)
+    requires at { Within N.Key.place (length nodes.old) at }
+    requires change { F.IsAlwaysCallable change }
+    ensures { (f : N → N) → ((n n' : N) → FnOnceReturnsAtMut F.FnOnce change n tt n' → n' ≡ f n) → nodes.new ≡ alter_at N.Key.place nodes.old at f }
 {
     if let Some(key) = at {
-        nodes[key.index()].set_prev(link);
+        change(&mut nodes[key.index()]);
     }
 }
 
-// The node at `at`, if there is one, gets `link` to the one behind it.
-fn link_next<N: LinkedNode>(nodes: &mut [N], at: Option<N::Key>, link: Option<N::Key>)
-    requires { Within N.Key.place (length nodes.old) at }
-    ensures { nodes.new ≡ alter_at N.Key.place nodes.old at (λ n. N.links.with_next n link) }
-{
-    if let Some(key) = at {
-        nodes[key.index()].set_next(link);
-    }
-}
-
-// The key that the node at `key` has ahead of it.
-fn prev_of<N: LinkedNode>(nodes: &[N], key: N::Key) -> Option<N::Key>
+// The node at `key`.
+#[tactic(auto, using(crate::proofs::Writes::read_is))]
+fn node_at<N: LinkedNode>(nodes: &[N], key: N::Key) -> N
     requires { N.Key.place key < length nodes.now }
-    ensures { result ≡ read_at N.links.prev_of nodes.now (N.Key.place key) }
+    ensures { (link : N → Option N.Key) → link result ≡ read_at link nodes.now (N.Key.place key) }
 {
-    nodes[key.index()].prev()
-}
-
-// The key that the node at `key` has behind it.
-fn next_of<N: LinkedNode>(nodes: &[N], key: N::Key) -> Option<N::Key>
-    requires { N.Key.place key < length nodes.now }
-    ensures { result ≡ read_at N.links.next_of nodes.now (N.Key.place key) }
-{
-    nodes[key.index()].next()
+    nodes[key.index()]
 }

@@ -1,8 +1,6 @@
+use Rattle.std.proofs.Common.{rules}
 use Rattle.chain.proofs.Edits.{inserts}
 use Rattle.chain.proofs.put_between.Goals as goal
 
-pub returns : goal.returns
-returns g c =
-    let table = c.link_between.ensures.table in
-    let ends = c.link_between.ensures.ends in
-    record { table = table; ends = ends; chain = inserts g.met.N.Key.Key.apart g.N.LinkedNode.links _ c.args.ends c.args.key c.args.prev c.args.next _ _ c.requires.key table ends }
+pub returns-clause-chain : goal.returns-clause-chain
+returns-clause-chain g c = inserts {place = g.N.Key.Key.place} g.met.N.Key.Key.apart g.N.LinkedNode.links _ c.args.ends c.args.key c.args.prev c.args.next _ _ c.requires.key (search rules) (search rules)

@@ -1,8 +1,6 @@
+use Rattle.std.proofs.Common.{rules}
 use Rattle.chain.proofs.Edits.{removes}
 use Rattle.chain.proofs.take_between.Goals as goal
 
-pub returns : goal.returns
-returns g c =
-    let table = c.unlink_between.ensures.table in
-    let ends = c.unlink_between.ensures.ends in
-    record { table = table; ends = ends; chain = removes g.met.N.Key.Key.apart g.N.LinkedNode.links _ c.args.ends c.args.key c.args.prev c.args.next _ _ table ends }
+pub returns-clause-chain : goal.returns-clause-chain
+returns-clause-chain g c = removes {place = g.N.Key.Key.place} g.met.N.Key.Key.apart g.N.LinkedNode.links _ c.args.ends c.args.key c.args.prev c.args.next _ _ (search rules) (search rules)
