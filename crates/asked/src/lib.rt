@@ -1,67 +1,99 @@
-//! The questions of each edit, put to the tables top to bottom: the first no refuses.
+//! The questions of each call, put to the listing top to bottom: the first no refuses.
 
 #![tactic(auto)]
 
-ghost use Rattle.std.specs.Prelude.{◌≡◌, true, false, ◌<◌};
-ghost use Rattle.entities.specs.Reading.{inserted_block, inserted_inst};
-ghost use Rattle.faults.specs.Questions.{FirstNo, in_range_block, append_block_asked, append_inst_asked, set_cold_asked};
-ghost use Rattle.listing.specs.Lawful.{Sound, program_of};
+ghost use Rattle.std.specs.Prelude.{◌≡◌, true, ◌<◌, not, Some};
+ghost use Rattle.entities.specs.Reading.{inserted_block, inserted_inst, inst_block};
+ghost use Rattle.faults.specs.Questions.{Asked, FirstNo, in_range, append_block_asked, append_inst_asked, set_cold_asked};
+ghost use Rattle.faults.specs.Refusals.{entity_at};
+ghost use Rattle.faults.specs.declared.Entity.TheVariants.{Block as the_block, Inst as the_inst};
+ghost use Rattle.faults.specs.declared.LayoutFault.TheVariants.{OutOfRange, NotInserted, AlreadyInserted};
+ghost use Rattle.listing.specs.Held.{program, BlockFree, InstFree};
 
 use chain::Key;
-use entities::nodes::Tables;
+use entities::progpoint::ProgramPoint;
 use entities::{BLOCK_CAPACITY, Block, INST_CAPACITY, Inst};
 use faults::{Entity, LayoutFault};
+use listing::Listing;
 
 pub mod placed;
 
 /// The first no to appending `block`.
-pub fn append_block(tables: &Tables, block: Block) -> Option<LayoutFault>
-    requires { Sound tables.now }
-    ensures { FirstNo (append_block_asked block (program_of tables.now)) result ((block.0 < 256) × (inserted_block block (program_of tables.now) ≡ false)) }
+pub fn append_block(listing: &Listing, block: Block) -> Result<(), LayoutFault>
+    ensures { FirstNo (append_block_asked block (program listing.now)) result (λ _. BlockFree block listing.now) }
 {
-    if !is_in_range(block) {
-        return Some(LayoutFault::OutOfRange(Entity::Block(block)));
-    }
-    if reads::is_block_inserted(tables, block) {
-        return Some(LayoutFault::AlreadyInserted(Entity::Block(block)));
-    }
-    None
+    in_range(block.into())?;
+    block_absent(listing, block)
 }
 
 /// The first no to appending `inst` to `block`.
-pub fn append_inst(tables: &Tables, inst: Inst, block: Block) -> Option<LayoutFault>
-    requires { Sound tables.now }
-    ensures { FirstNo (append_inst_asked inst block (program_of tables.now)) result ((inst.0 < 1024) × (inserted_block block (program_of tables.now) ≡ true) × (inserted_inst inst (program_of tables.now) ≡ false)) }
+pub fn append_inst(listing: &Listing, inst: Inst, block: Block) -> Result<(), LayoutFault>
+    ensures { FirstNo (append_inst_asked inst block (program listing.now)) result (λ _. InstFree inst listing.now × (inserted_block block (program listing.now) ≡ true)) }
 {
-    if inst.index() >= INST_CAPACITY {
-        return Some(LayoutFault::OutOfRange(Entity::Inst(inst)));
-    }
-    if !is_in_range(block) {
-        return Some(LayoutFault::OutOfRange(Entity::Block(block)));
-    }
-    if !reads::is_block_inserted(tables, block) {
-        return Some(LayoutFault::NotInserted(Entity::Block(block)));
-    }
-    if reads::inst_node(tables, inst).block.is_some() {
-        return Some(LayoutFault::AlreadyInserted(Entity::Inst(inst)));
-    }
-    None
+    in_range(inst.into())?;
+    in_range(block.into())?;
+    block_present(listing, block)?;
+    inst_absent(listing, inst)
 }
 
 /// The first no to marking `block` cold.
-pub fn set_cold(block: Block) -> Option<LayoutFault>
-    ensures { FirstNo (set_cold_asked block) result (block.0 < 256) }
+pub fn set_cold(block: Block) -> Result<(), LayoutFault>
+    ensures { FirstNo (set_cold_asked block) result (λ _. block.0 < 256) }
 {
-    let in_range = is_in_range(block);
-    if !in_range {
-        return Some(LayoutFault::OutOfRange(Entity::Block(block)));
-    }
-    None
+    in_range(ProgramPoint::Block(block))
 }
 
-// Is the block's number inside the layout's range?
-fn is_in_range(block: Block) -> bool
-    ensures { result ≡ in_range_block block }
+/// Puts one question: with a yes the call goes on, with a no it is refused with `fault`.
+pub fn ask(yes: bool, fault: LayoutFault) -> Result<(), LayoutFault>
+    ensures { Asked yes fault result (λ _. Unit {0}) }
 {
-    block.index() < BLOCK_CAPACITY
+    if yes { Ok(()) } else { Err(fault) }
+}
+
+/// Is the number of a point inside the layout's range?
+pub fn in_range(pp: ProgramPoint) -> Result<(), LayoutFault>
+    ensures { Asked (in_range pp) (OutOfRange (entity_at pp)) result (λ _. Unit {0}) }
+{
+    ask(is_in_range(pp), LayoutFault::OutOfRange(pp.into()))
+}
+
+fn is_in_range(pp: ProgramPoint) -> bool
+    ensures { result ≡ in_range pp }
+{
+    match pp {
+        ProgramPoint::Inst(inst) => inst.index() < INST_CAPACITY,
+        ProgramPoint::Block(block) => block.index() < BLOCK_CAPACITY,
+    }
+}
+
+// Is `block` inserted?
+fn block_present(listing: &Listing, block: Block) -> Result<(), LayoutFault>
+    ensures { Asked (inserted_block block (program listing.now)) (NotInserted (the_block block)) result (λ _. Unit {0}) }
+{
+    let present = reads::is_block_inserted(listing, block);
+    ask(present, LayoutFault::NotInserted(Entity::Block(block)))
+}
+
+// Is `block` not inserted?
+fn block_absent(listing: &Listing, block: Block) -> Result<(), LayoutFault>
+    ensures { Asked (not (inserted_block block (program listing.now))) (AlreadyInserted (the_block block)) result (λ _. Unit {0}) }
+{
+    let absent = !reads::is_block_inserted(listing, block);
+    ask(absent, LayoutFault::AlreadyInserted(Entity::Block(block)))
+}
+
+// Is `inst` inserted? Then it gives the block in which it stands.
+fn inst_present(listing: &Listing, inst: Inst) -> Result<Block, LayoutFault>
+    ensures { Asked (inserted_inst inst (program listing.now)) (NotInserted (the_inst inst)) result (λ block. inst_block inst (program listing.now) ≡ Some block) }
+{
+    let block = reads::inst_node(listing, inst).block;
+    block.ok_or(LayoutFault::NotInserted(Entity::Inst(inst)))
+}
+
+// Is `inst` not inserted?
+fn inst_absent(listing: &Listing, inst: Inst) -> Result<(), LayoutFault>
+    ensures { Asked (not (inserted_inst inst (program listing.now))) (AlreadyInserted (the_inst inst)) result (λ _. Unit {0}) }
+{
+    let absent = reads::inst_node(listing, inst).block.is_none();
+    ask(absent, LayoutFault::AlreadyInserted(Entity::Inst(inst)))
 }

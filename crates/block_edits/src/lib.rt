@@ -1,84 +1,50 @@
-//! The edits of the chain of blocks, each by the list that the tables then hold.
-//!
-//! The public functions ask for sound tables; those of a layout always are.
+//! The edits of the chain of blocks, each by the list that the listing then holds.
 
-#![tactic(auto)]
+#![tactic(auto, using(crate::proofs::Linked::edited))]
 
-ghost use Rattle.std.specs.Prelude.{◌≡◌, true, false, [], ◌<◌};
-ghost use Rattle.entities.specs.Program.{insert_block, insert_block_after, remove_block};
+ghost use Rattle.std.specs.Prelude.{◌≡◌, true, []};
+ghost use Rattle.entities.specs.Program.{append_block, insert_block, insert_block_after, remove_block, with_lines};
 ghost use Rattle.entities.specs.Reading.{inserted_block, slots_of};
-ghost use Rattle.listing.specs.Lawful.{Sound, listed, program_of};
-ghost use Rattle.listing.specs.Edits.{Becomes};
+ghost use Rattle.listing.specs.Held.{program, BlockFree};
 
-use chain::Ends;
 use entities::Block;
-use entities::nodes::Tables;
+use listing::Listing;
+
+/// Puts `block` at the end of the chain of blocks.
+pub fn append_block(listing: &mut Listing, block: Block)
+    requires { BlockFree block listing.old }
+    ensures { program listing.new ≡ with_lines (program listing.old) (append_block block (program listing.old).lines) }
+{
+    let tables = &mut listing.tables;
+    tables.ends = chain::append(&mut tables.blocks, tables.ends, block);
+}
 
 /// Puts `block` directly ahead of `before`.
-pub fn insert_block(tables: &mut Tables, block: Block, before: Block)
-    requires sound { Sound tables.old }
-    requires range { block.0 < 256 }
-    requires inserted { inserted_block before (program_of tables.old) ≡ true }
-    requires fresh { inserted_block block (program_of tables.old) ≡ false }
-    ensures { Becomes tables.old tables.new (insert_block block before (listed tables.old)) }
+pub fn insert_block(listing: &mut Listing, block: Block, before: Block)
+    requires free { BlockFree block listing.old }
+    requires inserted { inserted_block before (program listing.old) ≡ true }
+    ensures { program listing.new ≡ with_lines (program listing.old) (insert_block block before (program listing.old).lines) }
 {
-    let ends = tables.ends;
-    link_before(tables, ends, block, before);
+    let tables = &mut listing.tables;
+    tables.ends = chain::insert_before(&mut tables.blocks, tables.ends, block, before);
 }
 
 /// Puts `block` directly behind `after`.
-pub fn insert_block_after(tables: &mut Tables, block: Block, after: Block)
-    requires sound { Sound tables.old }
-    requires range { block.0 < 256 }
-    requires inserted { inserted_block after (program_of tables.old) ≡ true }
-    requires fresh { inserted_block block (program_of tables.old) ≡ false }
-    ensures { Becomes tables.old tables.new (insert_block_after block after (listed tables.old)) }
+pub fn insert_block_after(listing: &mut Listing, block: Block, after: Block)
+    requires free { BlockFree block listing.old }
+    requires inserted { inserted_block after (program listing.old) ≡ true }
+    ensures { program listing.new ≡ with_lines (program listing.old) (insert_block_after block after (program listing.old).lines) }
 {
-    let ends = tables.ends;
-    link_after(tables, ends, block, after);
+    let tables = &mut listing.tables;
+    tables.ends = chain::insert_after(&mut tables.blocks, tables.ends, block, after);
 }
 
 /// Takes out `block`, which has no instructions.
-pub fn remove_block(tables: &mut Tables, block: Block)
-    requires sound { Sound tables.old }
-    requires inserted { inserted_block block (program_of tables.old) ≡ true }
-    requires empty { slots_of block (program_of tables.old) ≡ [] }
-    ensures { Becomes tables.old tables.new (remove_block block (listed tables.old)) }
+pub fn remove_block(listing: &mut Listing, block: Block)
+    requires inserted { inserted_block block (program listing.old) ≡ true }
+    requires empty { slots_of block (program listing.old) ≡ [] }
+    ensures { program listing.new ≡ with_lines (program listing.old) (remove_block block (program listing.old).lines) }
 {
-    let ends = tables.ends;
-    unlink(tables, ends, block);
-}
-
-// The same, with `ends` for the ends of the chain: here a fact about the tables becomes one about the list.
-
-fn link_before(tables: &mut Tables, ends: Ends<Block>, block: Block, before: Block)
-    requires sound { Sound tables.old }
-    requires ends { ends ≡ tables.old.ends }
-    requires range { block.0 < 256 }
-    requires inserted { inserted_block before (program_of tables.old) ≡ true }
-    requires fresh { inserted_block block (program_of tables.old) ≡ false }
-    ensures { Becomes tables.old tables.new (insert_block block before (listed tables.old)) }
-{
-    tables.ends = chain::insert_before(&mut tables.blocks, ends, block, before);
-}
-
-fn link_after(tables: &mut Tables, ends: Ends<Block>, block: Block, after: Block)
-    requires sound { Sound tables.old }
-    requires ends { ends ≡ tables.old.ends }
-    requires range { block.0 < 256 }
-    requires inserted { inserted_block after (program_of tables.old) ≡ true }
-    requires fresh { inserted_block block (program_of tables.old) ≡ false }
-    ensures { Becomes tables.old tables.new (insert_block_after block after (listed tables.old)) }
-{
-    tables.ends = chain::insert_after(&mut tables.blocks, ends, block, after);
-}
-
-fn unlink(tables: &mut Tables, ends: Ends<Block>, block: Block)
-    requires sound { Sound tables.old }
-    requires ends { ends ≡ tables.old.ends }
-    requires inserted { inserted_block block (program_of tables.old) ≡ true }
-    requires empty { slots_of block (program_of tables.old) ≡ [] }
-    ensures { Becomes tables.old tables.new (remove_block block (listed tables.old)) }
-{
-    tables.ends = chain::remove(&mut tables.blocks, ends, block);
+    let tables = &mut listing.tables;
+    tables.ends = chain::remove(&mut tables.blocks, tables.ends, block);
 }

@@ -5,19 +5,30 @@
 
 #[cfg(test)]
 mod tests {
-    use entities::progpoint::{Order, ProgramPoint};
+    use entities::progpoint::ProgramPoint;
     use entities::{Block, Inst};
     use faults::{Entity, Layer, LayoutFault};
     use layout::Layout;
+    use std::cmp::Ordering;
     use std::test::Fail;
 
-    // A block or an instruction by its number.
+    // A block or an instruction by its number: a constant's value may not call `from_u32`, so no table below can hold a `ProgramPoint`.
     #[derive(Clone, Copy)]
     enum Point {
         B(u32),
         I(u32),
     }
 
+    impl From<Point> for ProgramPoint {
+        fn from(p: Point) -> ProgramPoint {
+            match p {
+                Point::B(n) => ProgramPoint::Block(Block::from_u32(n)),
+                Point::I(n) => ProgramPoint::Inst(Inst::from_u32(n)),
+            }
+        }
+    }
+
+    // A call as data, and no closure: the tables below are constants.
     #[derive(Clone, Copy)]
     enum Call {
         AppendBlock(u32),
@@ -27,90 +38,139 @@ mod tests {
         PpCmp(Point, Point),
     }
 
-    // A call, the number with which it is refused (0 where it is accepted), and the entity at fault.
+    // The number of a refusal, and the entity at fault.
     #[derive(Clone, Copy)]
-    struct Case(Call, u32, Point);
+    struct Refusal(u32, Point);
+
+    // A call, and how it is refused, if it is.
+    #[derive(Clone, Copy)]
+    struct Case(Call, Option<Refusal>);
 
     // Every call at the edges of the two ranges, in turn on one layout.
     const EDGES: [Case; 30] = [
-        Case(Call::AppendBlock(255), 0, Point::B(255)),
-        Case(Call::AppendBlock(256), 2, Point::B(256)),
-        Case(Call::AppendBlock(1023), 2, Point::B(1023)),
-        Case(Call::AppendBlock(1024), 2, Point::B(1024)),
-        Case(Call::AppendBlock(4294967295), 2, Point::B(4294967295)),
-        Case(Call::SetCold(255), 0, Point::B(255)),
-        Case(Call::SetCold(256), 2, Point::B(256)),
-        Case(Call::SetCold(1023), 2, Point::B(1023)),
-        Case(Call::SetCold(1024), 2, Point::B(1024)),
-        Case(Call::SetCold(4294967295), 2, Point::B(4294967295)),
-        Case(Call::AppendInst(255, 255), 0, Point::I(255)),
-        Case(Call::AppendInst(256, 255), 0, Point::I(256)),
-        Case(Call::AppendInst(1023, 255), 0, Point::I(1023)),
-        Case(Call::AppendInst(1024, 255), 2, Point::I(1024)),
-        Case(Call::AppendInst(4294967295, 255), 2, Point::I(4294967295)),
-        Case(Call::AppendInst(0, 256), 2, Point::B(256)),
-        Case(Call::AppendInst(0, 4294967295), 2, Point::B(4294967295)),
-        Case(Call::PpBlock(Point::B(254)), 0, Point::B(254)),
-        Case(Call::PpBlock(Point::B(255)), 0, Point::B(255)),
-        Case(Call::PpBlock(Point::B(256)), 2, Point::B(256)),
-        Case(Call::PpBlock(Point::B(4294967295)), 2, Point::B(4294967295)),
-        Case(Call::PpBlock(Point::I(1023)), 0, Point::I(1023)),
-        Case(Call::PpBlock(Point::I(1022)), 5, Point::I(1022)),
-        Case(Call::PpBlock(Point::I(1024)), 2, Point::I(1024)),
-        Case(Call::PpBlock(Point::I(4294967295)), 2, Point::I(4294967295)),
-        Case(Call::PpCmp(Point::B(254), Point::B(254)), 0, Point::B(254)),
-        Case(Call::PpCmp(Point::B(256), Point::I(1024)), 2, Point::B(256)),
+        Case(Call::AppendBlock(255), None),
+        Case(Call::AppendBlock(256), Some(Refusal(2, Point::B(256)))),
+        Case(Call::AppendBlock(1023), Some(Refusal(2, Point::B(1023)))),
+        Case(Call::AppendBlock(1024), Some(Refusal(2, Point::B(1024)))),
+        Case(
+            Call::AppendBlock(4294967295),
+            Some(Refusal(2, Point::B(4294967295))),
+        ),
+        Case(Call::SetCold(255), None),
+        Case(Call::SetCold(256), Some(Refusal(2, Point::B(256)))),
+        Case(Call::SetCold(1023), Some(Refusal(2, Point::B(1023)))),
+        Case(Call::SetCold(1024), Some(Refusal(2, Point::B(1024)))),
+        Case(
+            Call::SetCold(4294967295),
+            Some(Refusal(2, Point::B(4294967295))),
+        ),
+        Case(Call::AppendInst(255, 255), None),
+        Case(Call::AppendInst(256, 255), None),
+        Case(Call::AppendInst(1023, 255), None),
+        Case(
+            Call::AppendInst(1024, 255),
+            Some(Refusal(2, Point::I(1024))),
+        ),
+        Case(
+            Call::AppendInst(4294967295, 255),
+            Some(Refusal(2, Point::I(4294967295))),
+        ),
+        Case(Call::AppendInst(0, 256), Some(Refusal(2, Point::B(256)))),
+        Case(
+            Call::AppendInst(0, 4294967295),
+            Some(Refusal(2, Point::B(4294967295))),
+        ),
+        Case(Call::PpBlock(Point::B(254)), None),
+        Case(Call::PpBlock(Point::B(255)), None),
+        Case(
+            Call::PpBlock(Point::B(256)),
+            Some(Refusal(2, Point::B(256))),
+        ),
+        Case(
+            Call::PpBlock(Point::B(4294967295)),
+            Some(Refusal(2, Point::B(4294967295))),
+        ),
+        Case(Call::PpBlock(Point::I(1023)), None),
+        Case(
+            Call::PpBlock(Point::I(1022)),
+            Some(Refusal(5, Point::I(1022))),
+        ),
+        Case(
+            Call::PpBlock(Point::I(1024)),
+            Some(Refusal(2, Point::I(1024))),
+        ),
+        Case(
+            Call::PpBlock(Point::I(4294967295)),
+            Some(Refusal(2, Point::I(4294967295))),
+        ),
+        Case(Call::PpCmp(Point::B(254), Point::B(254)), None),
+        Case(
+            Call::PpCmp(Point::B(256), Point::I(1024)),
+            Some(Refusal(2, Point::B(256))),
+        ),
         Case(
             Call::PpCmp(Point::I(1023), Point::I(1024)),
-            2,
-            Point::I(1024),
+            Some(Refusal(2, Point::I(1024))),
         ),
-        Case(Call::PpCmp(Point::I(1023), Point::I(255)), 0, Point::I(255)),
+        Case(Call::PpCmp(Point::I(1023), Point::I(255)), None),
         Case(
             Call::PpCmp(Point::B(255), Point::I(4294967295)),
-            2,
-            Point::I(4294967295),
+            Some(Refusal(2, Point::I(4294967295))),
         ),
     ];
 
     // A call that would fail two questions names the first: the range of each number as given, then what must be inserted, then what
     // must not be, and for a comparison one block last.
     const FIRST_NO: [Case; 15] = [
-        Case(Call::AppendInst(1024, 256), 2, Point::I(1024)),
-        Case(Call::AppendInst(0, 256), 2, Point::B(256)),
-        Case(Call::AppendInst(0, 1), 5, Point::B(1)),
-        Case(Call::AppendBlock(1), 0, Point::B(1)),
-        Case(Call::AppendBlock(1), 6, Point::B(1)),
-        Case(Call::AppendInst(0, 1), 0, Point::I(0)),
-        Case(Call::AppendInst(0, 1), 6, Point::I(0)),
-        Case(Call::AppendInst(0, 7), 5, Point::B(7)),
-        Case(Call::PpBlock(Point::I(9)), 5, Point::I(9)),
-        Case(Call::PpCmp(Point::I(9), Point::B(256)), 2, Point::B(256)),
-        Case(Call::PpCmp(Point::I(9), Point::I(8)), 5, Point::I(9)),
-        Case(Call::PpCmp(Point::I(0), Point::I(8)), 5, Point::I(8)),
-        Case(Call::PpCmp(Point::B(7), Point::I(8)), 5, Point::I(8)),
-        Case(Call::PpCmp(Point::I(0), Point::B(2)), 9, Point::B(2)),
-        Case(Call::PpCmp(Point::B(2), Point::I(0)), 9, Point::I(0)),
+        Case(
+            Call::AppendInst(1024, 256),
+            Some(Refusal(2, Point::I(1024))),
+        ),
+        Case(Call::AppendInst(0, 256), Some(Refusal(2, Point::B(256)))),
+        Case(Call::AppendInst(0, 1), Some(Refusal(5, Point::B(1)))),
+        Case(Call::AppendBlock(1), None),
+        Case(Call::AppendBlock(1), Some(Refusal(6, Point::B(1)))),
+        Case(Call::AppendInst(0, 1), None),
+        Case(Call::AppendInst(0, 1), Some(Refusal(6, Point::I(0)))),
+        Case(Call::AppendInst(0, 7), Some(Refusal(5, Point::B(7)))),
+        Case(Call::PpBlock(Point::I(9)), Some(Refusal(5, Point::I(9)))),
+        Case(
+            Call::PpCmp(Point::I(9), Point::B(256)),
+            Some(Refusal(2, Point::B(256))),
+        ),
+        Case(
+            Call::PpCmp(Point::I(9), Point::I(8)),
+            Some(Refusal(5, Point::I(9))),
+        ),
+        Case(
+            Call::PpCmp(Point::I(0), Point::I(8)),
+            Some(Refusal(5, Point::I(8))),
+        ),
+        Case(
+            Call::PpCmp(Point::B(7), Point::I(8)),
+            Some(Refusal(5, Point::I(8))),
+        ),
+        Case(
+            Call::PpCmp(Point::I(0), Point::B(2)),
+            Some(Refusal(9, Point::B(2))),
+        ),
+        Case(
+            Call::PpCmp(Point::B(2), Point::I(0)),
+            Some(Refusal(9, Point::I(0))),
+        ),
     ];
 
     // Two points of a layout with inst8 and then inst2 in block3, and how the first stands to the second.
-    const RANKS: [(Point, Point, Order); 8] = [
-        (Point::B(9), Point::B(9), Order::Equal),
-        (Point::B(3), Point::B(3), Order::Equal),
-        (Point::B(3), Point::I(8), Order::Less),
-        (Point::B(3), Point::I(2), Order::Less),
-        (Point::I(8), Point::B(3), Order::Greater),
-        (Point::I(8), Point::I(2), Order::Less),
-        (Point::I(2), Point::I(8), Order::Greater),
-        (Point::I(2), Point::I(2), Order::Equal),
+    const RANKS: [(Point, Point, Ordering); 8] = [
+        (Point::B(9), Point::B(9), Ordering::Equal),
+        (Point::B(3), Point::B(3), Ordering::Equal),
+        (Point::B(3), Point::I(8), Ordering::Less),
+        (Point::B(3), Point::I(2), Ordering::Less),
+        (Point::I(8), Point::B(3), Ordering::Greater),
+        (Point::I(8), Point::I(2), Ordering::Less),
+        (Point::I(2), Point::I(8), Ordering::Greater),
+        (Point::I(2), Point::I(2), Ordering::Equal),
     ];
-
-    fn program_point(p: Point) -> ProgramPoint {
-        match p {
-            Point::B(n) => ProgramPoint::Block(Block::from_u32(n)),
-            Point::I(n) => ProgramPoint::Inst(Inst::from_u32(n)),
-        }
-    }
 
     // The fault of a call, none where it is accepted.
     fn fault_of(layout: &mut Layout, call: Call) -> Option<LayoutFault> {
@@ -120,26 +180,21 @@ mod tests {
                 .append_inst(Inst::from_u32(i), Block::from_u32(b))
                 .err(),
             Call::SetCold(b) => layout.set_cold(Block::from_u32(b)).err(),
-            Call::PpBlock(p) => layout.pp_block(program_point(p)).err(),
-            Call::PpCmp(a, b) => layout.pp_cmp(program_point(a), program_point(b)).err(),
-        }
-    }
-
-    fn is_entity(entity: Entity, p: Point) -> bool {
-        match entity {
-            Entity::Block(block) => matches!(p, Point::B(n) if n == block.as_u32()),
-            Entity::Inst(inst) => matches!(p, Point::I(n) if n == inst.as_u32()),
+            Call::PpBlock(p) => layout.pp_block(p.into()).err(),
+            Call::PpCmp(a, b) => layout.pp_cmp(a.into(), b.into()).err(),
         }
     }
 
     fn holds(layout: &mut Layout, case: Case) -> bool {
-        match fault_of(layout, case.0) {
-            None => case.1 == 0,
-            Some(fault) => {
-                fault.number() == case.1
-                    && matches!(fault.layer(), Layer::Layout)
-                    && is_entity(fault.entity(), case.2)
+        match (fault_of(layout, case.0), case.1) {
+            (None, None) => true,
+            (Some(fault), Some(Refusal(number, point))) => {
+                let entity = Entity::from(ProgramPoint::from(point));
+                fault.number() == number
+                    && fault.layer() == Layer::Layout
+                    && fault.entity() == entity
             }
+            _ => false,
         }
     }
 
@@ -192,7 +247,7 @@ mod tests {
         let _ = layout.append_inst(Inst::from_u32(2), home);
         assert!(rt; !layout.block_contains_exactly_one_inst(home));
         for (a, b, order) in RANKS {
-            assert!(rt; layout.pp_cmp(program_point(a), program_point(b)).ok() == Some(order));
+            assert!(rt; layout.pp_cmp(a.into(), b.into()).ok() == Some(order));
         }
     }
 
@@ -201,28 +256,26 @@ mod tests {
     fn a_full_layout(rt: HostRuntime) {
         let mut layout = Layout::new();
         for n in 0..256 {
-            assert!(rt;
-                holds(
-                    &mut layout,
-                    Case(Call::AppendBlock(255 - n), 0, Point::B(n)),
-                )
-            );
+            assert!(rt; holds(&mut layout, Case(Call::AppendBlock(255 - n), None),));
         }
         for n in 0..1024 {
-            assert!(rt;
-                holds(
-                    &mut layout,
-                    Case(Call::AppendInst(n, n % 256), 0, Point::I(n)),
-                )
-            );
+            assert!(rt; holds(&mut layout, Case(Call::AppendInst(n, n % 256), None),));
         }
         for n in 0..1024 {
             let seq = layout.inst_seq(Inst::from_u32(n)) == Some(10 * (n / 256 + 1));
-            let full = holds(&mut layout, Case(Call::AppendInst(n, 0), 6, Point::I(n)));
+            let full = holds(
+                &mut layout,
+                Case(Call::AppendInst(n, 0), Some(Refusal(6, Point::I(n)))),
+            );
             assert!(rt; seq && full);
         }
         for n in 0..256 {
-            assert!(rt; holds(&mut layout, Case(Call::AppendBlock(n), 6, Point::B(n))));
+            assert!(rt;
+                holds(
+                    &mut layout,
+                    Case(Call::AppendBlock(n), Some(Refusal(6, Point::B(n))))
+                )
+            );
         }
         assert!(rt; layout.clear() == 0 && layout.entry_block() == None);
     }
@@ -234,13 +287,7 @@ mod tests {
         for n in 0..256 {
             let _ = layout.append_block(Block::from_u32(255 - n));
         }
-        let mut left = 256;
-        for block in layout.blocks() {
-            assert!(rt; left > 0);
-            left -= 1;
-            assert!(rt; block == Block::from_u32(left));
-        }
-        assert!(rt; left == 0);
+        assert!(rt; layout.blocks().eq((0..256).rev().map(Block::from_u32)));
     }
 
     // All 1,024 in one block: each append writes one number, and the last is 10,240.
@@ -253,12 +300,7 @@ mod tests {
             assert!(rt; layout.append_inst(Inst::from_u32(n), home).ok() == Some(1));
             assert!(rt; layout.inst_seq(Inst::from_u32(n)) == Some(10 * (n + 1)));
         }
-        let mut count = 0u32;
-        for inst in layout.block_insts(home) {
-            assert!(rt; inst == Inst::from_u32(count));
-            count = count.saturating_add(1);
-        }
-        assert!(rt; count == 1024);
+        assert!(rt; layout.block_insts(home).eq((0..1024).map(Inst::from_u32)));
     }
 
     // Five instructions, taken in turn from the front and from the back: each comes once, and then none from either end.
@@ -314,9 +356,9 @@ mod tests {
         let highest = Block::from_u32(4294967295).as_u32() == Inst::from_u32(4294967295).as_u32();
         let all_but_one = Block::with_number(4294967294).is_some()
             && Block::with_number(4294967295).is_none();
-        let inst = program_point(Point::I(4)).unwrap_inst() == Some(Inst::from_u32(4));
+        let inst = ProgramPoint::from(Point::I(4)).unwrap_inst() == Some(Inst::from_u32(4));
         assert!(rt;
-            highest && all_but_one && inst && program_point(Point::B(4)).unwrap_inst() == None
+            highest && all_but_one && inst && ProgramPoint::from(Point::B(4)).unwrap_inst() == None
         );
     }
 }

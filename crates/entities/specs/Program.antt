@@ -46,20 +46,11 @@ with_slots l ss = record { block = l.block; slots = ss }
 abbrev pub with_lines : Program → List Line → Program
 with_lines p ls = record { lines = ls; cold = p.cold }
 
--- ---- in place of what has the number n, what f makes of it
+-- ---- in place of each that passes the test, what f makes of it
 
 abbrev pub chosen : {A : Type 0} → Bool → List A → A → List A → List A
 chosen true new a rest = new ++ rest
 chosen false new a rest = a ∷ rest
-
-abbrev pub instead : {A : Type 0} → (A → ℕ) → ℕ → (A → List A) → List A → List A
-instead num n f [] = []
-instead num n f (a ∷ rest) = chosen (num a == n) (f a) a (instead num n f rest)
-
-abbrev pub line_number : Line → ℕ
-line_number l = l.block.0
-
--- ---- in place of each that passes the test, what f makes of it
 
 abbrev pub instead_where : {A : Type 0} → (A → Bool) → (A → List A) → List A → List A
 instead_where test f [] = []
@@ -85,7 +76,7 @@ append_block b ls = ls ++ (empty_line b ∷ [])
 
 -- the slots of block b become what f makes of them
 abbrev pub in_block : Block → (List Slot → List Slot) → List Line → List Line
-in_block b f ls = instead line_number b.0 (λ l. with_slots l (f l.slots) ∷ []) ls
+in_block b f ls = instead_where (is_block b) (λ l. with_slots l (f l.slots) ∷ []) ls
 
 abbrev pub mark_cold : Block → Program → Program
 mark_cold b p = record { lines = p.lines; cold = slice_set p.cold b.0 true }

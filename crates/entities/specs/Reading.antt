@@ -5,8 +5,8 @@ use Rattle.entities.specs.declared.Block.{Block}
 use Rattle.entities.specs.declared.Inst.{Inst}
 use Rattle.entities.specs.declared.progpoint.ProgramPoint.{ProgramPoint}
 use Rattle.entities.specs.declared.progpoint.ProgramPoint.TheVariants.{Inst as inst_point, Block as block_point}
-use Rattle.entities.specs.declared.progpoint.Order.{Order}
-use Rattle.entities.specs.declared.progpoint.Order.TheVariants.{Less, Equal, Greater}
+use Rattle.std.specs.declared.cmp.Ordering.{Ordering}
+use Rattle.std.specs.declared.cmp.Ordering.TheVariants.{Less, Equal, Greater}
 use Rattle.entities.specs.Nodes.{block_place, inst_place}
 use Rattle.entities.specs.Lists.{of_first, holds, behind, ahead}
 use Rattle.entities.specs.Program.{Slot, Line, Program, insts_in, blocks_of, insts_of}
@@ -121,15 +121,15 @@ pub record Precedes {A : Type 0} (a c : A) (xs : List A) : Type 0 where
   pub is : xs ≡ ahead ++ (a ∷ (between ++ (c ∷ behind)))
 
 -- how a stands to c in the walk
-abbrev pub Stands : {A : Type 0} → Order → A → A → List A → Type 0
+abbrev pub Stands : {A : Type 0} → Ordering → A → A → List A → Type 0
 Stands Less a c xs = Precedes a c xs
 Stands Equal a c xs = a ≡ c
 Stands Greater a c xs = Precedes c a xs
 
 -- o is how a stands to c in the walk of the block of a, and nothing else is
-pub record Ranked (p : Program) (a c : ProgramPoint) (o : Order) : Type 0 where
+pub record Ranked (p : Program) (a c : ProgramPoint) (o : Ordering) : Type 0 where
   pub block : Block
   pub of_a : point_block a p ≡ Some block
   pub of_c : point_block c p ≡ Some block
   pub stands : Stands o a c (walk_of block p)
-  pub only : (q : Order) → Stands q a c (walk_of block p) → q ≡ o
+  pub only : (q : Ordering) → Stands q a c (walk_of block p) → q ≡ o

@@ -26,11 +26,7 @@ impl Block {
     pub fn with_number(n: u32) -> Option<Block>
         ensures { result ≡ block_with_number n }
     {
-        if n < u32::MAX {
-            Some(Block::from_u32(n))
-        } else {
-            None
-        }
+        (n < u32::MAX).then_some(Block::from_u32(n))
     }
 
     /// The block with this number, whatever it is.
@@ -58,6 +54,9 @@ impl Key for Block {
         self.as_u32() as usize
     }
 }
+
+// `Inst` has the methods of `Block` over again, and no type or trait that both share: a rule of the project keeps the two numbers apart, so
+// that neither ever passes for the other.
 
 /// An instruction of the program, by its number.
 #[derive(Clone, Copy, PartialEq, Eq)]

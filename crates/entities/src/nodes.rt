@@ -76,6 +76,7 @@ impl InstNode {
     };
 }
 
+// As for `BlockNode`: a rule of the project has each kind of node show by itself that a link set is the link read, and spares the rest.
 impl LinkedNode for InstNode {
     type Key = Inst;
 
@@ -102,7 +103,8 @@ impl LinkedNode for InstNode {
     }
 }
 
-/// The two node tables with the ends of the chain of blocks.
+/// The two node tables with the ends of the chain of blocks. Nodes name one another by index in arrays of fixed size, and not by `Box`: a
+/// controller has that much memory and no heap, and such tables are what another controller sends.
 #[derive(Drop)]
 pub struct Tables {
     pub blocks: [BlockNode; BLOCK_CAPACITY],

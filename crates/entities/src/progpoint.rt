@@ -1,13 +1,13 @@
-//! Program points, and how two of them are ordered.
+//! Program points.
 
 ghost use Rattle.std.specs.Prelude.{◌≡◌};
 ghost use Rattle.entities.specs.declared.progpoint.ProgramPoint.TheVariants.{Inst as inst_point, Block as block_point};
-ghost use Rattle.entities.specs.Points.{inst_of, compared};
+ghost use Rattle.entities.specs.Points.{inst_of};
 
 use crate::{Block, Inst};
 
 /// A point of the program: an instruction, or a block ahead of all its instructions.
-#[derive(Clone, Copy)]
+#[derive(Clone, Copy, PartialEq, Eq)]
 pub enum ProgramPoint {
     Inst(Inst),
     Block(Block),
@@ -38,28 +38,5 @@ impl From<Block> for ProgramPoint {
 
     fn from(block: Block) -> ProgramPoint {
         Self::Block(block)
-    }
-}
-
-/// Which of two points comes first.
-#[derive(Clone, Copy, PartialEq, Eq)]
-pub enum Order {
-    Less,
-    Equal,
-    Greater,
-}
-
-impl Order {
-    /// How the number `a` stands to the number `b`.
-    pub fn of(a: u32, b: u32) -> Order
-        ensures { result ≡ compared a b }
-    {
-        if a < b {
-            Order::Less
-        } else if a == b {
-            Order::Equal
-        } else {
-            Order::Greater
-        }
     }
 }

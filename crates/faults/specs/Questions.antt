@@ -23,15 +23,15 @@ abbrev pub first_no : List Question → Option Refusal
 first_no [] = None
 first_no (q ∷ qs) = cond q.yes (first_no qs) (Some q.no)
 
--- a fault is that of the first no; without one every question has its yes, and `told` holds
-abbrev pub FirstNo : List Question → Option LayoutFault → Type 0 → Type 0
-FirstNo qs (Some f) told = first_no qs ≡ Some (refusal_of f)
-FirstNo qs None told = (first_no qs ≡ None) × told
+-- a fault is that of the first no; without one every question has its yes, and `Found` holds of what the call gives
+abbrev pub FirstNo : {A : Type 0} → List Question → Result A LayoutFault → (A → Type 0) → Type 0
+FirstNo qs (Err f) Found = first_no qs ≡ Some (refusal_of f)
+FirstNo qs (Ok a) Found = (first_no qs ≡ None) × Found a
 
--- the same of a call that finds something where no question has its no: `Found` holds of it
-abbrev pub FirstNoOr : {A : Type 0} → List Question → Result A LayoutFault → (A → Type 0) → Type 0
-FirstNoOr qs (Err f) Found = first_no qs ≡ Some (refusal_of f)
-FirstNoOr qs (Ok a) Found = (first_no qs ≡ None) × Found a
+-- one question put: its yes lets the call go on, and `Found` holds of what it gives; its no refuses the call with the fault f
+abbrev pub Asked : {A : Type 0} → Bool → LayoutFault → Result A LayoutFault → (A → Type 0) → Type 0
+Asked q f (Ok a) Found = (q ≡ true) × Found a
+Asked q f (Err g) Found = (q ≡ false) × (g ≡ f)
 
 -- ---- the questions
 

@@ -3,10 +3,10 @@ use Rattle.std.specs.Prelude.{◌≡◌, ℕ, Some, None, Option, Result}
 use Rattle.entities.specs.declared.Block.{Block}
 use Rattle.entities.specs.declared.Inst.{Inst}
 use Rattle.entities.specs.declared.progpoint.ProgramPoint.{ProgramPoint}
-use Rattle.entities.specs.declared.progpoint.Order.{Order}
+use Rattle.std.specs.declared.cmp.Ordering.{Ordering}
+use Rattle.std.specs.Ordering.{nat_cmp}
 use Rattle.faults.specs.declared.LayoutFault.{LayoutFault}
 use Rattle.entities.specs.Program.{Program, append_block, insert_block, insert_block_after, remove_block, split_block, remove_inst, mark_cold, with_lines}
-use Rattle.entities.specs.Points.{compared}
 use Rattle.entities.specs.Reading.{slots_of, slots_with, point_block, point_seq}
 use Rattle.faults.specs.Refusals.{Refusal, Told, accepted, refused, told}
 use Rattle.faults.specs.Questions.{first_no, append_block_asked, insert_block_asked, insert_block_after_asked, remove_block_asked, remove_block_and_insts_asked, split_block_asked, append_inst_asked, insert_inst_asked, remove_inst_asked, set_cold_asked, pp_block_asked, pp_cmp_asked}
@@ -73,5 +73,5 @@ set_cold_rule b p = ruled (first_no (set_cold_asked b)) 0 (mark_cold b p) p
 abbrev pub pp_block_rule : ProgramPoint → Program → Told (Option Block)
 pp_block_rule a p = answered (first_no (pp_block_asked a p)) (point_block a p)
 
-abbrev pub pp_cmp_rule : ProgramPoint → ProgramPoint → Program → Told Order
-pp_cmp_rule a b p = answered (first_no (pp_cmp_asked a b p)) (compared (point_seq a p) (point_seq b p))
+abbrev pub pp_cmp_rule : ProgramPoint → ProgramPoint → Program → Told Ordering
+pp_cmp_rule a b p = answered (first_no (pp_cmp_asked a b p)) (nat_cmp (point_seq a p) (point_seq b p))

@@ -12,15 +12,16 @@ use std::fmt;
 use std::fmt::Display;
 
 /// Who asks a question.
-#[derive(Clone, Copy)]
+#[derive(Clone, Copy, PartialEq, Eq)]
 pub enum Layer {
     Layout,
     Cursor,
     Audit,
 }
 
-/// A block or an instruction, as the thing at fault.
-#[derive(Clone, Copy)]
+/// A block or an instruction, as the thing at fault. It has the cases of `ProgramPoint` and is no point: it has no place in a walk, and a
+/// number out of range is at fault too.
+#[derive(Clone, Copy, PartialEq, Eq)]
 pub enum Entity {
     Block(Block),
     Inst(Inst),
@@ -38,7 +39,7 @@ impl From<ProgramPoint> for Entity {
 }
 
 /// Why the layout refuses a call.
-#[derive(Clone, Copy)]
+#[derive(Clone, Copy, PartialEq, Eq)]
 pub enum LayoutFault {
     /// A number given is outside the layout's range.
     OutOfRange(Entity),
@@ -118,18 +119,14 @@ impl fmt::Display for Entity {
 
 impl fmt::Display for LayoutFault {
     fn fmt<W: fmt::Write>(&self, f: &mut fmt::Formatter<W>) -> fmt::Result {
-        f.write_str("refused with ")?;
-        self.number().fmt(f)?;
-        f.write_str(" by the ")?;
-        self.layer().fmt(f)?;
-        f.write_str(": ")?;
-        self.entity().fmt(f)?;
-        match self {
-            LayoutFault::OutOfRange(_) => f.write_str(" is out of range"),
-            LayoutFault::NotInserted(_) => f.write_str(" is not inserted"),
-            LayoutFault::AlreadyInserted(_) => f.write_str(" is inserted already"),
-            LayoutFault::NotEmpty(_) => f.write_str(" has instructions"),
-            LayoutFault::DifferentBlocks(_) => f.write_str(" is in another block"),
-        }
+        let (number, layer, entity) = (self.number(), self.layer(), self.entity());
+        let reason = match self {
+            LayoutFault::OutOfRange(_) => "is out of range",
+            LayoutFault::NotInserted(_) => "is not inserted",
+            LayoutFault::AlreadyInserted(_) => "is inserted already",
+            LayoutFault::NotEmpty(_) => "has instructions",
+            LayoutFault::DifferentBlocks(_) => "is in another block",
+        };
+        write!(f, "refused with {number} by the {layer}: {entity} {reason}")
     }
 }

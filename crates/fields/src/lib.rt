@@ -4,8 +4,8 @@
 #![tactic(auto)]
 
 ghost use Rattle.std.specs.Prelude.{◌≡◌, ◌<◌, length};
-ghost use Rattle.chain.specs.Table.{alter, read_at};
-ghost use Rattle.entities.specs.Nodes.{ends_of, first_of, last_of};
+ghost use Rattle.chain.specs.Table.{alter};
+ghost use Rattle.entities.specs.Nodes.{ends_of};
 ghost use Rattle.listing.specs.Edits.{with_inst_ends, with_block};
 
 use chain::{Ends, Key};
@@ -13,11 +13,12 @@ use entities::nodes::{BlockNode, InstNode};
 use entities::{Block, Inst};
 
 /// The first and the last instruction of `block`.
+#[tactic(auto, using(listing::proofs::Parts::ends_read))]
 pub fn inst_ends(blocks: &[BlockNode], block: Block) -> Ends<Inst>
     requires { block.0 < length blocks.now }
     ensures { result ≡ ends_of blocks.now block }
 {
-    let node = node_of(blocks, block);
+    let node = blocks[block.index()];
     Ends {
         first: node.first_inst,
         last: node.last_inst,
@@ -25,39 +26,19 @@ pub fn inst_ends(blocks: &[BlockNode], block: Block) -> Ends<Inst>
 }
 
 /// The first and the last instruction of `block` are now `ends`.
+#[tactic(auto, using(crate::proofs::Written::ends_written))]
 pub fn set_inst_ends(blocks: &mut [BlockNode], block: Block, ends: Ends<Inst>)
     requires { block.0 < length blocks.old }
     ensures { blocks.new ≡ alter blocks.old block.0 (λ n. with_inst_ends n ends) }
 {
-    write_ends(blocks, block, ends.first, ends.last);
+    let node = &mut blocks[block.index()];
+    node.first_inst = ends.first;
+    node.last_inst = ends.last;
 }
 
 /// The node of `inst` now names `block`, or none.
+#[tactic(auto, using(crate::proofs::Written::block_written))]
 pub fn set_block(insts: &mut [InstNode], inst: Inst, block: Option<Block>)
-    requires { inst.0 < length insts.old }
-    ensures { insts.new ≡ alter insts.old inst.0 (λ n. with_block n block) }
-{
-    write_block(insts, inst, block);
-}
-
-fn node_of(blocks: &[BlockNode], block: Block) -> BlockNode
-    requires { block.0 < length blocks.now }
-    ensures first { result.first_inst ≡ read_at first_of blocks.now block.0 }
-    ensures last { result.last_inst ≡ read_at last_of blocks.now block.0 }
-{
-    blocks[block.index()]
-}
-
-fn write_ends(blocks: &mut [BlockNode], block: Block, first: Option<Inst>, last: Option<Inst>)
-    requires { block.0 < length blocks.old }
-    ensures { blocks.new ≡ alter blocks.old block.0 (λ n. with_inst_ends n (record { first = first; last = last })) }
-{
-    let at = block.index();
-    blocks[at].first_inst = first;
-    blocks[at].last_inst = last;
-}
-
-fn write_block(insts: &mut [InstNode], inst: Inst, block: Option<Block>)
     requires { inst.0 < length insts.old }
     ensures { insts.new ≡ alter insts.old inst.0 (λ n. with_block n block) }
 {

@@ -2,11 +2,12 @@
 
 #![tactic(auto)]
 
-use entities::progpoint::Order;
 use entities::{BLOCK_CAPACITY, Block, Inst};
 use faults::LayoutFault;
 use layout::Layout;
+use std::cmp::Ordering;
 use std::fmt::Display;
+use std::iter::successors;
 use std::{fmt, io};
 
 // The blocks of the example's dispatch program, by number and name.
@@ -49,14 +50,14 @@ impl Display for Entered {
 
 // Which of two tied cars goes, by the order of their instructions.
 #[derive(Drop)]
-struct Tie(Result<Order, LayoutFault>);
+struct Tie(Result<Ordering, LayoutFault>);
 
 impl Display for Tie {
     fn fmt<W: fmt::Write>(&self, f: &mut fmt::Formatter<W>) -> fmt::Result {
         match self.0 {
-            Ok(Order::Less) => f.write_str("  car A's instruction: car A goes"),
-            Ok(Order::Greater) => f.write_str("  car B's instruction: car B goes"),
-            Ok(Order::Equal) => f.write_str("  it is the same one"),
+            Ok(Ordering::Less) => f.write_str("  car A's instruction: car A goes"),
+            Ok(Ordering::Greater) => f.write_str("  car B's instruction: car B goes"),
+            Ok(Ordering::Equal) => f.write_str("  it is the same one"),
             Err(fault) => fault.fmt(f),
         }
     }
@@ -69,12 +70,10 @@ struct Numbered(Option<u32>, Inst);
 impl Display for Numbered {
     fn fmt<W: fmt::Write>(&self, f: &mut fmt::Formatter<W>) -> fmt::Result {
         let seq = self.0.unwrap_or(0);
-        for (number, _, what) in INSTS {
-            if number == self.1.as_u32() {
-                return write!(f, "  {seq:>4}  {what}\n");
-            }
+        match INSTS.iter().find(|entry| entry.0 == self.1.as_u32()) {
+            Some((_, _, what)) => write!(f, "  {seq:>4}  {what}\n"),
+            None => Ok(()),
         }
-        Ok(())
     }
 }
 
@@ -84,12 +83,10 @@ struct Named(Block);
 
 impl Display for Named {
     fn fmt<W: fmt::Write>(&self, f: &mut fmt::Formatter<W>) -> fmt::Result {
-        for (number, what) in BLOCKS {
-            if number == self.0.as_u32() {
-                return write!(f, "{what}\n");
-            }
+        match BLOCKS.iter().find(|entry| entry.0 == self.0.as_u32()) {
+            Some((_, what)) => write!(f, "{what}\n"),
+            None => Ok(()),
         }
-        Ok(())
     }
 }
 
@@ -115,16 +112,12 @@ struct Backward<'a>(&'a Layout);
 
 impl Display for Backward<'_> {
     fn fmt<W: fmt::Write>(&self, f: &mut fmt::Formatter<W>) -> fmt::Result {
-        let mut at = self.0.last_block();
-        for _ in 0..BLOCK_CAPACITY {
-            let Some(block) = at else {
-                break;
-            };
+        let back = successors(self.0.last_block(), |block| self.0.prev_block(*block));
+        for block in back.take(BLOCK_CAPACITY) {
             Named(block).fmt(f)?;
             for inst in self.0.block_insts(block).rev() {
                 Numbered(self.0.inst_seq(inst), inst).fmt(f)?;
             }
-            at = self.0.prev_block(block);
         }
         Ok(())
     }

@@ -1,5 +1,5 @@
 -- An instruction removed, from what is written once it is taken out of its chain. Assumes nothing.
-use Rattle.std.proofs.Common.{◌≡◌, ◌<◌, List, length, None, Option, sym, ap, ◌∙◌, subst}
+use Rattle.std.proofs.Common.{◌≡◌, List, None, Option, sym, ap, ◌∙◌, subst}
 use Rattle.chain.specs.declared.Ends.{Ends}
 use Rattle.chain.specs.Table.{alter}
 use Rattle.entities.specs.declared.Block.{Block}
@@ -10,15 +10,8 @@ use Rattle.entities.specs.declared.nodes.Tables.{Tables}
 use Rattle.entities.specs.Program.{remove_inst}
 use Rattle.listing.specs.Edits.{Becomes, with_block, with_inst_ends}
 use Rattle.listing.specs.Lawful.{listed}
-use Rattle.listing.proofs.InstLaws.{its_block_low, still_low, taken}
+use Rattle.listing.proofs.InstLaws.{taken}
 use Rattle.inst_edits.specs.Removal.{TakenOut}
-
-module _ {t u : Tables} {i : Inst} {b : Block} {new : Ends Inst} (k : TakenOut t u i b new) where
-  pub inst_still_low : i.0 < length u.insts
-  inst_still_low = still_low t i b k.sound k.stands u.insts k.table
-
-  pub block_still_low : b.0 < length u.blocks
-  block_still_low = subst (λ (x : Tables). b.0 < length x.blocks) (sym k.rest) (its_block_low t i b k.sound k.stands)
 
 pub closed : (t u : Tables) (i : Inst) (b : Block) (new : Ends Inst) (o : Option Block) (bs : List BlockNode) (js : List InstNode) → TakenOut t u i b new → o ≡ None → bs ≡ alter u.blocks b.0 (λ n. with_inst_ends n new) → js ≡ alter u.insts i.0 (λ n. with_block n o) → Becomes t (record { blocks = bs; insts = js; ends = u.ends }) (remove_inst i (listed t))
 closed t u i b new o bs js k none wrote named =

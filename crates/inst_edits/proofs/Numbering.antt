@@ -11,7 +11,7 @@ use Rattle.listing.specs.Edits.{Linked, with_insts}
 use Rattle.listing.specs.Lawful.{Sound, program_of}
 use Rattle.listing.specs.Numbers.{Placed, SomePlaced}
 use Rattle.listing.proofs.Linking.{numbered_now, placed}
-use Rattle.numbering.specs.Between.{AssignedAt}
+use Rattle.numbering.specs.Assigned.{AssignedAt}
 
 module _ (t : Tables) (i : Inst) (b : Block) (first : Option Inst) (e : first ≡ read_at first_of t.blocks b.0) where
   placed_from : (n : ℕ) (p : Program) (l : Linked t i b n p) → Placed t.insts first l.sa i l.sb

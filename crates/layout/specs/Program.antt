@@ -4,4 +4,4 @@ use Rattle.listing.specs.Lawful.{program_of}
 use Rattle.layout.specs.declared.Layout.{Layout}
 
 abbrev pub program : Layout → Program
-program l = program_of l.tables
+program l = program_of l.listing.tables

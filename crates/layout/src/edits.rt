@@ -16,7 +16,7 @@ impl Layout {
         ensures { program result ≡ no_program }
     {
         Layout {
-            tables: tables::unlinked(false),
+            listing: tables::unlinked(false),
         }
     }
 
@@ -25,7 +25,7 @@ impl Layout {
         ensures answer { result ≡ 0 }
         ensures program { program self.new ≡ no_program }
     {
-        tables::clear(&mut self.tables);
+        tables::clear(&mut self.listing);
         0
     }
 
@@ -34,10 +34,8 @@ impl Layout {
         ensures rule { Follows (append_block_rule block (program self.old)) result (program self.new) }
         ensures refused { SameIfRefused result self.old self.new }
     {
-        if let Some(fault) = asked::append_block(&self.tables, block) {
-            return Err(fault);
-        }
-        tables::append_block(&mut self.tables, block);
+        asked::append_block(&self.listing, block)?;
+        block_edits::append_block(&mut self.listing, block);
         Ok(0)
     }
 
@@ -46,10 +44,8 @@ impl Layout {
         ensures rule { Follows (append_inst_rule inst block (program self.old)) result (program self.new) }
         ensures refused { SameIfRefused result self.old self.new }
     {
-        if let Some(fault) = asked::append_inst(&self.tables, inst, block) {
-            return Err(fault);
-        }
-        let writes = tables::append_inst(&mut self.tables, inst, block);
+        asked::append_inst(&self.listing, inst, block)?;
+        let writes = inst_edits::append_inst(&mut self.listing, inst, block);
         Ok(writes)
     }
 
@@ -58,10 +54,8 @@ impl Layout {
         ensures rule { Follows (set_cold_rule block (program self.old)) result (program self.new) }
         ensures refused { SameIfRefused result self.old self.new }
     {
-        if let Some(fault) = asked::set_cold(block) {
-            return Err(fault);
-        }
-        tables::set_cold(&mut self.tables, block);
+        asked::set_cold(block)?;
+        tables::set_cold(&mut self.listing, block);
         Ok(0)
     }
 }

@@ -13,17 +13,17 @@ use walks::{Blocks, Insts};
 impl Layout {
     /// A walk over all blocks, in order. It borrows the layout: no edit while it is in use.
     pub fn blocks(&self) -> Blocks<'_>
-        ensures tables { result.tables.now ≡ self.now.tables }
-        ensures all { blocks_left result.tables.now result.next ≡ blocks_of (program self.now).lines }
+        ensures listing { result.listing.now ≡ self.now.listing }
+        ensures all { blocks_left result.listing.now result.next ≡ blocks_of (program self.now).lines }
     {
-        Blocks::new(&self.tables)
+        Blocks::new(&self.listing)
     }
 
     /// A walk over the instructions of `block`, from either end. It borrows the layout: no edit while it is in use.
     pub fn block_insts(&self, block: Block) -> Insts<'_>
-        ensures tables { result.tables.now ≡ self.now.tables }
-        ensures all { insts_left result.tables.now result.block result.head result.tail ≡ block_insts block (program self.now) }
+        ensures listing { result.listing.now ≡ self.now.listing }
+        ensures all { insts_left result.listing.now result.block result.left ≡ block_insts block (program self.now) }
     {
-        Insts::new(&self.tables, block)
+        Insts::new(&self.listing, block)
     }
 }

@@ -2,9 +2,7 @@
 
 #![tactic(auto)]
 
-ghost use Rattle.listing.specs.Lawful.{Sound};
-
-use entities::nodes::Tables;
+use listing::Listing;
 
 mod edits;
 mod iteration;
@@ -14,7 +12,6 @@ mod questions;
 /// A dispatch program's blocks and instructions in order, over tables of fixed size.
 #[derive(Drop)]
 pub struct Layout {
-    tables: Tables,
-    // the tables stand for a list whose numbers rise in every block
-    ghost sound: { Sound tables },
+    // its type says that the tables stand for a list whose numbers rise in every block
+    listing: Listing,
 }

@@ -8,22 +8,23 @@ ghost use Rattle.layout.specs.Program.{program};
 
 use crate::Layout;
 use entities::Block;
-use entities::progpoint::{Order, ProgramPoint};
+use entities::progpoint::ProgramPoint;
 use faults::LayoutFault;
+use std::cmp::Ordering;
 
 impl Layout {
     /// The block of the point `pp`: a block is its own, inserted or not.
     pub fn pp_block(&self, pp: ProgramPoint) -> Result<Block, LayoutFault>
         ensures { told_found result ≡ pp_block_rule pp (program self.now) }
     {
-        points::pp_block(&self.tables, pp)
+        points::pp_block(&self.listing, pp)
     }
 
     /// Which of two points of one block comes first?
-    pub fn pp_cmp(&self, a: ProgramPoint, b: ProgramPoint) -> Result<Order, LayoutFault>
+    pub fn pp_cmp(&self, a: ProgramPoint, b: ProgramPoint) -> Result<Ordering, LayoutFault>
         ensures numbers { told result ≡ pp_cmp_rule a b (program self.now) }
         ensures walk { IfAccepted result (Ranked (program self.now) a b) }
     {
-        points::pp_cmp(&self.tables, a, b)
+        points::pp_cmp(&self.listing, a, b)
     }
 }

@@ -1,11 +1,11 @@
 -- Where a key stands in a list, and what `instead_where` makes there. Assumes nothing.
-use Rattle.std.proofs.Common.{◌≡◌, ℕ, Bool, true, false, cond, eqb, ◌⊎◌, List, [], ◌∷◌, ◌++◌, map, Some, sym, refl, ap, ◌∙◌, inl, inr}
+use Rattle.std.proofs.Common.{◌≡◌, ℕ, Bool, true, false, cond, ◌⊎◌, List, [], ◌∷◌, ◌++◌, map, Some, sym, refl, ap, ◌∙◌, inl, inr}
 use Rattle.std.proofs.lemmas.Bool.{cases_eq, eq-eqb, ne_eqb}
 use Rattle.chain.proofs.Keys.{misses_left, misses_right, some_inj}
 use Rattle.chain.specs.Chain.{Misses}
 use Rattle.entities.specs.Nodes.{block_place, inst_place}
 use Rattle.entities.specs.Lists.{ahead_of, from_on}
-use Rattle.entities.specs.Program.{Line, Slot, chosen, has_inst, in_block, instead, instead_where, insts_in, insts_of, is_block, is_inst, with_slots}
+use Rattle.entities.specs.Program.{Line, Slot, chosen, has_inst, in_block, instead_where, insts_in, insts_of, is_block, is_inst, with_slots}
 use Rattle.entities.specs.declared.Block.{Block}
 use Rattle.entities.specs.declared.Inst.{Inst}
 use Rattle.listing.proofs.Stretches.{holds_not}
@@ -44,22 +44,6 @@ module _ {A K : Type 0} (place : K → ℕ) (apart : (a b : K) → place a ≡ p
               | inr f ↦ inr (record { ahead = x ∷ f.ahead; it = f.it; behind = f.behind; is = ap (λ r. x ∷ r) f.is; here = f.here; clear = (ne, f.clear) })
             ]
       ]
-
-  -- where none has the key, all stays
-  pub instead_none : (f : A → List A) (xs : List A) → Misses (Some k) (map key xs) → instead (λ a. place (key a)) (place k) f xs ≡ xs
-  instead_none f [] m = refl
-  instead_none f (x ∷ xs) m =
-      let t : eqb (place (key x)) (place k) ≡ false = ne_eqb (place (key x)) (place k) (λ e. m.0 (ap Some (sym (apart (key x) k e)))) in
-      ap (λ c. chosen c (f x) x (instead (λ a. place (key a)) (place k) f xs)) t ∙ ap (λ r. x ∷ r) (instead_none f xs m.1)
-
-  -- at the one that has it, f's list
-  pub instead_at : (f : A → List A) (xs : List A) (x : A) (ys : List A) → Misses (Some k) (map key xs) → key x ≡ k → Misses (Some k) (map key ys) → instead (λ a. place (key a)) (place k) f (xs ++ (x ∷ ys)) ≡ xs ++ (f x ++ ys)
-  instead_at f [] x ys mx e my =
-      let t : eqb (place (key x)) (place k) ≡ true = eq-eqb (place (key x)) (place k) (ap place e) in
-      ap (λ c. chosen c (f x) x (instead (λ a. place (key a)) (place k) f ys)) t ∙ ap (λ r. f x ++ r) (instead_none f ys my)
-  instead_at f (z ∷ zs) x ys mx e my =
-      let t : eqb (place (key z)) (place k) ≡ false = ne_eqb (place (key z)) (place k) (λ q. mx.0 (ap Some (sym (apart (key z) k q)))) in
-      ap (λ c. chosen c (f z) z (instead (λ a. place (key a)) (place k) f (zs ++ (x ∷ ys)))) t ∙ ap (λ r. z ∷ r) (instead_at f zs x ys mx.1 e my)
 
 pub map-append : {A B : Type 0} (f : A → B) (xs ys : List A) → map f (xs ++ ys) ≡ map f xs ++ map f ys
 map-append f [] ys = refl
@@ -124,4 +108,4 @@ pub block_instead : (b : Block) (f : Line → List Line) (xs : List Line) (l : L
 block_instead b f xs l ys mx e my = instead_where_at (is_block b) f xs l ys (other_blocks b xs mx) (this_block b l e) (other_blocks b ys my)
 
 pub in_block_at : (b : Block) (f : List Slot → List Slot) (xs : List Line) (l : Line) (ys : List Line) → Misses (Some b) (map (λ m. m.block) xs) → l.block ≡ b → Misses (Some b) (map (λ m. m.block) ys) → in_block b f (xs ++ (l ∷ ys)) ≡ xs ++ (with_slots l (f l.slots) ∷ ys)
-in_block_at b f = instead_at block_place block_apart (λ l. l.block) b (λ l. with_slots l (f l.slots) ∷ [])
+in_block_at b f = block_instead b (λ l. with_slots l (f l.slots) ∷ [])

@@ -24,7 +24,7 @@ use Rattle.listing.proofs.Props.{sound_out}
 use Rattle.listing.proofs.Questions.{of_block_at}
 use Rattle.listing.proofs.Rises.{becomes, remove_inst_rises}
 use Rattle.listing.proofs.Standing.{StandsIn, its_line_instead, its_slots, slots_ahead, slots_from, slots_without, stands_in}
-use Rattle.listing.specs.Edits.{linked_last, Becomes, BlockIn, Edited, Linked, after_insts, unnumbered, with_block, with_inst_ends}
+use Rattle.listing.specs.Edits.{Becomes, BlockIn, Edited, Linked, after_insts, unnumbered, with_block, with_inst_ends}
 use Rattle.listing.specs.Lawful.{Represents, Sound, Wired, listed, or_zero, program_of}
 
 -- a block's last instruction is in the table
@@ -137,12 +137,6 @@ module _ (t : Tables) (b : Block) (i : Inst) (old e : Ends Inst) (p n : Option I
   at_its_line a f =
       ap (in_block b f) a.is
       ∙ in_block_at b f a.ahead a.it a.behind a.clear a.here (none_behind block_place block_links t.blocks t.ends (blocks_of a.ahead) b (blocks_of a.behind) a.chain)
-
-  -- the lines then, ahead of its numbering
-  pub last_linked : p ≡ old.last → n ≡ None → inserted_block b (program_of t) ≡ true → Edited t linked (linked_last i b t)
-  last_linked ep en stands =
-      let a : At t b = block_at t b (sound_out h).wired (block_stands t b stands) in
-      subst (λ q. Edited t linked q) (sym (at_its_line a (λ ss. ss ++ (unnumbered t i ∷ [])))) (behind_last a ep en)
 
   pub put_last : p ≡ old.last → n ≡ None → inserted_block b (program_of t) ≡ true → Linked linked i b (numbered (slots_of b (program_of t)) i []).writes (appended_inst i b (program_of t))
   put_last ep en stands =

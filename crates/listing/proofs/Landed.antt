@@ -1,24 +1,24 @@
 -- From what is written in the tables to the program that they then hold. Assumes nothing.
-use Rattle.std.proofs.Common.{◌≡◌, ◌<◌, true, false, List, [], length, replicate, Some, None, sym, ap, ◌∙◌, subst}
+use Rattle.std.proofs.Common.{◌≡◌, true, false, List, [], length, replicate, Some, None, sym, ap, ◌∙◌}
 use Rattle.chain.specs.Chain.{Inserts, Removes}
 use Rattle.chain.specs.Table.{inserted_table, read_at, removed_table}
 use Rattle.chain.specs.declared.Ends.{Ends}
 use Rattle.entities.specs.Nodes.{block_links, block_place, inst_place, no_inst, only_mark}
-use Rattle.entities.specs.Program.{Line, append_block, blocks_of, insert_block, insert_block_after, insts_of, remove_block}
+use Rattle.entities.specs.Program.{append_block, blocks_of, insert_block, insert_block_after, insts_of, remove_block}
 use Rattle.entities.specs.Reading.{inserted_block, inserted_inst, slots_of}
 use Rattle.entities.specs.declared.Block.{Block}
 use Rattle.entities.specs.declared.Inst.{Inst}
 use Rattle.entities.specs.declared.nodes.BlockNode.{BlockNode}
 use Rattle.entities.specs.declared.nodes.InstNode.{InstNode}
 use Rattle.entities.specs.declared.nodes.Tables.{Tables}
-use Rattle.listing.proofs.BlockEdits.{appended, block_at, in_table, inserted_ahead, inserted_behind, removed}
+use Rattle.listing.proofs.BlockEdits.{appended, block_at, inserted_ahead, inserted_behind, removed}
 use Rattle.listing.proofs.Empty.{emptied}
 use Rattle.listing.proofs.Found.{block_apart, inst_apart}
 use Rattle.listing.proofs.Props.{sound_out}
 use Rattle.listing.proofs.Questions.{slots_at}
 use Rattle.listing.proofs.Rises.{append_block_rises, becomes, insert_block_after_rises, insert_block_rises, remove_block_rises}
 use Rattle.listing.proofs.Stretches.{in_holds, not_holds}
-use Rattle.listing.specs.Edits.{Becomes, BlockIn, BlockOut, Edited, InstOut, after_blocks}
+use Rattle.listing.specs.Edits.{Becomes, BlockIn, BlockOut, InstOut, after_blocks}
 use Rattle.listing.specs.Lawful.{Sound, listed, program_of}
 
 pub block_stands : (t : Tables) (b : Block) → inserted_block b (program_of t) ≡ true → BlockIn b t
@@ -63,7 +63,3 @@ all_unlinked t n bs is h bare eb ei =
   where
     tables_of : List BlockNode → List InstNode → Tables
     tables_of x y = record { blocks = x; insts = y; ends = record { first = None; last = None } }
-
--- an inserted block is still inside the table
-pub still_low : {ls : List Line} (t u : Tables) (b : Block) → Sound t → inserted_block b (program_of t) ≡ true → Edited t u ls → b.0 < length u.blocks
-still_low t u b h stands e = subst (λ n. b.0 < n) ((sound_out h).wired.blocks_size ∙ sym e.wired.blocks_size) (in_table t b (sound_out h).wired (block_stands t b stands)).here

@@ -17,7 +17,6 @@ pub mod Ranks
 pub mod Walking
 pub mod Standing
 pub mod Numbered
-pub mod Appends
 pub mod Laws
 pub mod Linking
 pub mod Naming

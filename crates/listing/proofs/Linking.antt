@@ -3,24 +3,28 @@ use Rattle.std.proofs.Common.{◌≡◌, ℕ, ◌<◌, List, [], ◌∷◌, ◌+
 use Rattle.chain.specs.Chain.{Chain}
 use Rattle.chain.specs.Table.{read_at}
 use Rattle.entities.specs.Nodes.{ends_of, first_of, inst_links, inst_place, last_of}
-use Rattle.entities.specs.Numbering.{numbered}
+use Rattle.entities.specs.Numbering.{last_number, numbered}
 use Rattle.entities.specs.Program.{Line, Program, Slot, insts_in, with_slots}
 use Rattle.entities.specs.declared.Block.{Block}
 use Rattle.entities.specs.declared.Inst.{Inst}
 use Rattle.entities.specs.declared.nodes.InstNode.{InstNode}
 use Rattle.entities.specs.declared.nodes.Tables.{Tables}
 use Rattle.listing.proofs.InstEdits.{block_low, held_left, held_right, insts_cut, this_line}
-use Rattle.listing.proofs.Numbered.{numbered_insts, numbered_rises}
+use Rattle.listing.proofs.Numbered.{numbered_insts, numbered_rises, rising_back}
 use Rattle.listing.proofs.Numbers.{renumbered}
 use Rattle.listing.proofs.Props.{sound_out}
 use Rattle.listing.proofs.Rises.{becomes, rising_apart, rising_at}
 use Rattle.listing.specs.Edits.{Edited, Linked, unnumbered, with_insts}
 use Rattle.listing.specs.Lawful.{AllRising, Filled, Held, Represents, Rising, Sound, program_of}
-use Rattle.listing.specs.Numbers.{Placed, Renumbered, Renumbers, Written}
+use Rattle.listing.specs.Numbers.{BelowFirst, Placed, Renumbered, Renumbers, Written}
 
 written_of : (t : List InstNode) (b : Block) (ss : List Slot) → Held t b ss → Written t ss
 written_of t b [] h = tt
 written_of t b (s ∷ ss) h = (h.1, written_of t b ss h.2)
+
+below_first : (n : ℕ) (ss : List Slot) → Rising n ss → BelowFirst n ss
+below_first n [] r = tt
+below_first n (s ∷ ss) r = r.0
 
 -- ---- the tables u, in which i is linked in and not numbered yet
 
@@ -54,7 +58,7 @@ module _ (u : Tables) (i : Inst) (b : Block) (writes : ℕ) (p : Program) (l : L
     };
     ahead = written_of u.insts l.it.block l.sa (held_left u.insts l.it.block l.sa (unnumbered l.before i ∷ l.sb) filled.held);
     behind = written_of u.insts l.it.block l.sb (held_right u.insts l.it.block l.sa (unnumbered l.before i ∷ l.sb) filled.held).2;
-    rising = rising_here;
+    between = below_first (last_number 0 l.sa) l.sb (rising_back 0 l.sa l.sb rising_here);
   }
 
   -- once it is numbered

@@ -1,19 +1,16 @@
 -- Numbers and the walk of a block rank two points alike. Assumes nothing.
-use Rattle.std.proofs.Common.{◌≡◌, ℕ, ◌<◌, true, cond, eqb, ◌⊎◌, List, [], ◌∷◌, ◌++◌, map, is_some, Some, sym, refl, ap, ◌∙◌, subst, inl, inr, arith}
+use Rattle.std.proofs.Common.{◌≡◌, ℕ, ◌<◌, true, cond, eqb, ◌⊎◌, List, [], ◌∷◌, ◌++◌, map, is_some, Some, sym, refl, ap, ◌∙◌, subst, inl, inr, arith, nat_cmp, Ordering, Less, Equal, Greater}
 use Rattle.std.proofs.lemmas.Bool.{lt-ltb}
 use Rattle.std.proofs.lemmas.Bool.Decides.{nat_tests}
 use Rattle.entities.specs.declared.progpoint.ProgramPoint.TheVariants.{Inst as inst_point, Block as block_point}
-use Rattle.entities.specs.declared.progpoint.Order.TheVariants.{Less, Equal, Greater}
 use Rattle.chain.proofs.Keys.{none_some, some_inj}
 use Rattle.chain.specs.Chain.{Misses}
 use Rattle.chain.specs.Table.{read_at}
 use Rattle.entities.specs.Nodes.{block_named, block_place, number_of}
-use Rattle.entities.specs.Points.{compared}
 use Rattle.entities.specs.Program.{Slot, blocks_of, insts_in}
 use Rattle.entities.specs.Reading.{Precedes, Ranked, Stands, block_insts, inserted_inst, inserted_point, inst_seq, of_block, point_block, point_seq, slots_of, walk_of}
 use Rattle.entities.specs.declared.Block.{Block}
 use Rattle.entities.specs.declared.nodes.Tables.{Tables}
-use Rattle.entities.specs.declared.progpoint.Order.{Order}
 use Rattle.entities.specs.declared.progpoint.ProgramPoint.{ProgramPoint}
 use Rattle.listing.proofs.Found.{block_apart, locate, map-append}
 use Rattle.listing.proofs.Frames.{filled_right}
@@ -75,15 +72,15 @@ two xs (u ∷ us) a vs (w ∷ ws) c zs e h =
       ]
     ]
 
--- ---- numbers, compared
+-- ---- numbers, nat_cmp
 
-compared_less : (m n : ℕ) → m < n → compared m n ≡ Less
+compared_less : (m n : ℕ) → m < n → nat_cmp m n ≡ Less
 compared_less m n h = ap (λ c. cond c Less (cond (eqb m n) Equal Greater)) (lt-ltb m n h)
 
-compared_equal : (m n : ℕ) → m ≡ n → compared m n ≡ Equal
+compared_equal : (m n : ℕ) → m ≡ n → nat_cmp m n ≡ Equal
 compared_equal m n e = grind (arith, nat_tests)
 
-compared_greater : (m n : ℕ) → n < m → compared m n ≡ Greater
+compared_greater : (m n : ℕ) → n < m → nat_cmp m n ≡ Greater
 compared_greater m n h = grind (arith, nat_tests)
 
 -- a list that climbs behind its first ranks by number as by place
@@ -91,12 +88,12 @@ module _ {A : Type 0} (f : A → ℕ) (x : A) (xs : List A) (up : Climbs f (f x)
   ahead_less : (a c : A) → Precedes a c (x ∷ xs) → f a < f c
   ahead_less a c p = up_ahead f x xs p.ahead a p.between c p.behind up p.is
 
-  stood : (o : Order) (a c : A) → Stands o a c (x ∷ xs) → compared (f a) (f c) ≡ o
+  stood : (o : Ordering) (a c : A) → Stands o a c (x ∷ xs) → nat_cmp (f a) (f c) ≡ o
   stood Less a c s = compared_less (f a) (f c) (ahead_less a c s)
   stood Equal a c s = compared_equal (f a) (f c) (ap f s)
   stood Greater a c s = compared_greater (f a) (f c) (ahead_less c a s)
 
-  stands_by : (a c : A) → Among a (x ∷ xs) → Among c (x ∷ xs) → Stands (compared (f a) (f c)) a c (x ∷ xs)
+  stands_by : (a c : A) → Among a (x ∷ xs) → Among c (x ∷ xs) → Stands (nat_cmp (f a) (f c)) a c (x ∷ xs)
   stands_by a c p q =
       elim (two (x ∷ xs) p.ahead a p.behind q.ahead c q.behind p.is q.is) [
         | inl s ↦ subst (λ o. Stands o a c (x ∷ xs)) (sym (stood Less a c s)) s
@@ -149,7 +146,7 @@ module _ (t : Tables) (law : Lawful t) where
         is = ap (λ ks. block_point b ∷ map inst_point ks) parts ∙ ap (λ ps. block_point b ∷ ps) (map-append inst_point (insts_in a.sa) (i ∷ insts_in a.sb));
       }
 
-pub ranked : (t : Tables) → Sound t → (a c : ProgramPoint) (b : Block) → point_block a (program_of t) ≡ Some b → point_block c (program_of t) ≡ Some b → Ranked (program_of t) a c (compared (point_seq a (program_of t)) (point_seq c (program_of t)))
+pub ranked : (t : Tables) → Sound t → (a c : ProgramPoint) (b : Block) → point_block a (program_of t) ≡ Some b → point_block c (program_of t) ≡ Some b → Ranked (program_of t) a c (nat_cmp (point_seq a (program_of t)) (point_seq c (program_of t)))
 ranked t h a c b ea ec =
     let law = sound_out h in
     let p = program_of t in

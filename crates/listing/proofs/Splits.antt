@@ -193,9 +193,6 @@ module _ (t : Tables) (nb b : Block) (i : Inst) (h : Sound t) (stands : inst_blo
     old_low = subst (λ (x : Block). x.0 < length t1.blocks) opened.block lows.0
 
     -- also once the ends of b are written
-    pub new_low : (o : Ends Inst) (bs : List BlockNode) → bs ≡ alter t1.blocks b.0 (λ n. with_inst_ends n o) → nb.0 < length bs
-    new_low o bs e = subst (λ n. nb.0 < n) (sym (ap length e ∙ length-alter (λ n. with_inst_ends n o) t1.blocks b.0)) lows.1.0
-
     pub cut_low : i.0 < length t1.insts
     cut_low = here_within inst_place inst_links t1.insts (ends_of t1.blocks b) (insts_in opened.sa) i (insts_in opened.sb) opened.chain
 

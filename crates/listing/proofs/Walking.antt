@@ -16,7 +16,7 @@ use Rattle.listing.proofs.Frames.{filled_left, named_misses}
 use Rattle.listing.proofs.InstEdits.{other_ahead, this_line}
 use Rattle.listing.proofs.Props.{sound_out}
 use Rattle.listing.proofs.Questions.{of_block_at, of_block_none, of_inst_at, slots_distinct}
-use Rattle.listing.proofs.Stretches.{span_back, span_front, span_none_back, span_none_front, span_one, span_start, walk_start, walk_step}
+use Rattle.listing.proofs.Stretches.{span_back, span_front, span_one, span_start, walk_start, walk_step}
 use Rattle.listing.specs.Lawful.{Held, Represents, Sound, Wired, listed, program_of}
 
 -- ---- blocks
@@ -95,9 +95,3 @@ module _ (t : Tables) (sound : Sound t) (b : Block) where
       let s = span_back inst_place inst_apart h (Some i) xs i distinct on refl apart in
       let is : o ≡ ahead inst_place i xs = e ∙ prev_in_block t law b i s.2 in
       (ap (λ q. spans inst_place h q xs) is ∙ s.1, s.0 ∙ ap (λ q. stretch inst_place h q xs ++ (i ∷ [])) (sym is))
-
-  pub insts_over_front : (h l : Option Inst) → spans inst_place h l (block_insts b (program_of t)) ≡ true → h ≡ None → stretch inst_place h l (block_insts b (program_of t)) ≡ []
-  insts_over_front h l on e = (span_none_front inst_place inst_apart h l (block_insts b (program_of t)) on e).0
-
-  pub insts_over_back : (h l : Option Inst) → spans inst_place h l (block_insts b (program_of t)) ≡ true → l ≡ None → stretch inst_place h l (block_insts b (program_of t)) ≡ []
-  insts_over_back h l on e = (span_none_back inst_place inst_apart h l (block_insts b (program_of t)) on e).0

@@ -1,12 +1,12 @@
 -- Numbers written into nodes that stand in a chain. Assumes nothing.
-use Rattle.std.specs.Prelude.{◌≡◌, ◌≤◌, List, [], ◌∷◌, ◌++◌, length, Some, Option}
+use Rattle.std.specs.Prelude.{◌≡◌, ℕ, ◌<◌, ◌≤◌, List, [], ◌∷◌, ◌++◌, length, Some, Option}
 use Rattle.chain.specs.Table.{read_at}
 use Rattle.chain.specs.Chain.{Chain, Misses}
 use Rattle.entities.specs.declared.Inst.{Inst}
 use Rattle.entities.specs.declared.nodes.InstNode.{InstNode}
 use Rattle.entities.specs.Nodes.{inst_place, inst_links, block_named, number_of}
+use Rattle.entities.specs.Numbering.{last_number}
 use Rattle.entities.specs.Program.{Slot, insts_in}
-use Rattle.listing.specs.Lawful.{Rising}
 
 -- each slot's number is in its node
 abbrev pub Written : List InstNode → List Slot → Type 0
@@ -37,17 +37,17 @@ pub record SomeRun (t : List InstNode) (first : Option Inst) : Type 0 where
   pub insts : List Inst
   pub run : Run t first insts
 
--- some chain begins at `first` and ends with inst
-pub record SomeRunTo (t : List InstNode) (first : Option Inst) (inst : Inst) : Type 0 where
-  pub ahead : List Inst
-  pub run : Run t first (ahead ++ (inst ∷ []))
+-- n is below the number of the first of the slots, if there is one
+abbrev pub BelowFirst : ℕ → List Slot → Type 0
+BelowFirst n [] = Unit {0}
+BelowFirst n (s ∷ ss) = n < s.seq
 
--- inst stands in the block that begins at `first`, the slots sa ahead of it and sb behind; their numbers rise, its own left out
+-- inst stands in the block that begins at `first`, the slots sa ahead of it and sb behind; the number ahead of it is below the one behind
 pub record Placed (t : List InstNode) (first : Option Inst) (sa : List Slot) (inst : Inst) (sb : List Slot) : Type 0 where
   pub run : Run t first (insts_in sa ++ (inst ∷ insts_in sb))
   pub ahead : Written t sa
   pub behind : Written t sb
-  pub rising : Rising 0 (sa ++ sb)
+  pub between : BelowFirst (last_number 0 sa) sb
 
 -- inst stands somewhere in the block that begins at `first`
 pub record SomePlaced (t : List InstNode) (first : Option Inst) (inst : Inst) : Type 0 where

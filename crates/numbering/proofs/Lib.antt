@@ -1,6 +1,5 @@
 pub mod Renumbering
-pub mod Turns
-pub mod Assigning
 pub mod Tails
+pub mod Turns
 pub mod Pushes
 pub mod Placing

@@ -1,17 +1,33 @@
 -- Numbers written into nodes: into one, and into some after others. Assumes nothing.
-use Rattle.std.proofs.Common.{◌≡◌, ℕ, ◌+◌, ◌<◌, List, [], ◌∷◌, ◌++◌, length, Some, sym, refl, ap, ◌∙◌, subst}
+use Rattle.std.proofs.Common.{◌≡◌, ℕ, ◌+◌, ◌<◌, List, [], ◌∷◌, ◌++◌, length, get_or, Some, sym, refl, ap, ◌∙◌, subst}
 use Rattle.chain.proofs.Edits.{length-alter, read_here, read_kept, read_other}
 use Rattle.chain.proofs.Keys.{misses_left, misses_right}
 use Rattle.chain.specs.Chain.{Disjoint, Misses}
-use Rattle.entities.specs.Nodes.{block_named, inst_links, number_of}
+use Rattle.chain.specs.Table.{read_at}
+use Rattle.entities.specs.Nodes.{block_named, inst_links, no_inst, number_of}
 use Rattle.entities.specs.Numbering.{tens}
 use Rattle.entities.specs.Program.{Slot, insts_in, slot}
 use Rattle.entities.specs.declared.Inst.{Inst}
 use Rattle.entities.specs.declared.nodes.InstNode.{InstNode}
 use Rattle.listing.proofs.Found.{inst_apart}
 use Rattle.listing.proofs.InstEdits.{insts_cut}
+use Rattle.listing.proofs.Parts.{node_reads}
+use Rattle.listing.specs.Lawful.{or_zero}
 use Rattle.listing.specs.Numbers.{Renumbered, Renumbers, Written}
 use Rattle.numbering.specs.Assigned.{with_number}
+
+-- ---- what is read from a node
+
+pub reads_prev : (t : List InstNode) (i : ℕ) → i < length t → (get_or t i no_inst).prev ≡ read_at inst_links.prev_of t i
+reads_prev t i h = node_reads inst_links.prev_of t i i no_inst refl h
+
+pub reads_next : (t : List InstNode) (i : ℕ) → i < length t → (get_or t i no_inst).next ≡ read_at inst_links.next_of t i
+reads_next t i h = node_reads inst_links.next_of t i i no_inst refl h
+
+pub reads_seq : (t : List InstNode) (i : ℕ) → i < length t → (get_or t i no_inst).seq ≡ or_zero (read_at number_of t i)
+reads_seq t i h = ap or_zero (node_reads number_of t i i no_inst refl h)
+
+-- ---- numbers written
 
 -- one number
 pub put : (t : List InstNode) (i : Inst) (n : ℕ) → i.0 < length t → Renumbered t (with_number t i n) (slot i n ∷ [])

@@ -10,7 +10,7 @@ use Rattle.entities.specs.declared.Inst.{Inst}
 use Rattle.entities.specs.declared.nodes.InstNode.{InstNode}
 use Rattle.listing.proofs.Found.{inst_apart}
 use Rattle.listing.specs.Numbers.{Renumbers, Run}
-use Rattle.numbering.specs.Between.{Tail}
+use Rattle.numbering.specs.Local.{Tail}
 
 pub run_tail : {t : List InstNode} {first : Option Inst} {ks : List Inst} → Run t first ks → Tail t first ks
 run_tail r = record { before = None; here = r.chain.first; linked = r.chain.linked; distinct = r.chain.distinct; within = r.chain.within; size = r.size }

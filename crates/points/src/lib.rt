@@ -2,99 +2,75 @@
 
 #![tactic(auto)]
 
-ghost use Rattle.std.specs.Prelude.{◌≡◌, true, is_some, Some};
-ghost use Rattle.entities.specs.Points.{compared};
+ghost use Rattle.std.specs.Prelude.{◌≡◌, true, Some};
+ghost use Rattle.std.specs.Ordering.{nat_cmp};
 ghost use Rattle.entities.specs.Reading.{inserted_point, point_block, point_seq, Ranked};
-ghost use Rattle.faults.specs.Questions.{in_range};
-ghost use Rattle.faults.specs.Refusals.{told, told_found, IfAccepted};
+ghost use Rattle.faults.specs.Questions.{Asked};
+ghost use Rattle.faults.specs.Refusals.{entity_at, told, told_found, IfAccepted};
 ghost use Rattle.faults.specs.Rules.{pp_block_rule, pp_cmp_rule};
-ghost use Rattle.listing.specs.Lawful.{Sound, program_of};
+ghost use Rattle.faults.specs.declared.LayoutFault.TheVariants.{NotInserted};
+ghost use Rattle.listing.specs.Held.{program};
 
-use chain::Key;
-use entities::nodes::{SequenceNumber, Tables};
-use entities::progpoint::{Order, ProgramPoint};
-use entities::{BLOCK_CAPACITY, Block, INST_CAPACITY};
+use entities::Block;
+use entities::nodes::SequenceNumber;
+use entities::progpoint::ProgramPoint;
 use faults::LayoutFault;
+use listing::Listing;
+use std::cmp::Ordering;
 
 /// The block of the point `pp`: a block is its own, inserted or not.
-pub fn pp_block(tables: &Tables, pp: ProgramPoint) -> Result<Block, LayoutFault>
-    requires { Sound tables.now }
-    ensures { told_found result ≡ pp_block_rule pp (program_of tables.now) }
+pub fn pp_block(listing: &Listing, pp: ProgramPoint) -> Result<Block, LayoutFault>
+    ensures { told_found result ≡ pp_block_rule pp (program listing.now) }
 {
-    if !is_in_range(pp) {
-        return Err(LayoutFault::OutOfRange(pp.into()));
-    }
-    match point_block(tables, pp) {
-        Some(block) => Ok(block),
-        None => Err(LayoutFault::NotInserted(pp.into())),
-    }
+    asked::in_range(pp)?;
+    block_of(listing, pp)
 }
 
 /// Which of two points of one block comes first?
-pub fn pp_cmp(tables: &Tables, a: ProgramPoint, b: ProgramPoint) -> Result<Order, LayoutFault>
-    requires { Sound tables.now }
-    ensures numbers { told result ≡ pp_cmp_rule a b (program_of tables.now) }
-    ensures walk { IfAccepted result (Ranked (program_of tables.now) a b) }
+pub fn pp_cmp(listing: &Listing, a: ProgramPoint, b: ProgramPoint) -> Result<Ordering, LayoutFault>
+    ensures numbers { told result ≡ pp_cmp_rule a b (program listing.now) }
+    ensures walk { IfAccepted result (Ranked (program listing.now) a b) }
 {
-    if !is_in_range(a) {
-        return Err(LayoutFault::OutOfRange(a.into()));
-    }
-    if !is_in_range(b) {
-        return Err(LayoutFault::OutOfRange(b.into()));
-    }
-    let Some(a_block) = point_block(tables, a) else {
-        return Err(LayoutFault::NotInserted(a.into()));
-    };
-    let Some(b_block) = point_block(tables, b) else {
-        return Err(LayoutFault::NotInserted(b.into()));
-    };
-    if a_block.as_u32() != b_block.as_u32() {
-        return Err(LayoutFault::DifferentBlocks(b.into()));
-    }
-    Ok(order_in(tables, a_block, a, b))
+    asked::in_range(a)?;
+    asked::in_range(b)?;
+    let a_block = block_of(listing, a)?;
+    let b_block = block_of(listing, b)?;
+    asked::ask(a_block == b_block, LayoutFault::DifferentBlocks(b.into()))?;
+    Ok(order_in(listing, a_block, a, b))
 }
 
-// Is the number of a point inside the layout's range?
-fn is_in_range(pp: ProgramPoint) -> bool
-    ensures { result ≡ in_range pp }
+// Is what stands at the point there? Then its block is found; a block is its own, inserted or not.
+fn block_of(listing: &Listing, pp: ProgramPoint) -> Result<Block, LayoutFault>
+    ensures { Asked (inserted_point pp (program listing.now)) (NotInserted (entity_at pp)) result (λ block. point_block pp (program listing.now) ≡ Some block) }
 {
     match pp {
-        ProgramPoint::Inst(inst) => inst.index() < INST_CAPACITY,
-        ProgramPoint::Block(block) => block.index() < BLOCK_CAPACITY,
+        ProgramPoint::Inst(inst) => reads::inst_node(listing, inst)
+            .block
+            .ok_or(LayoutFault::NotInserted(pp.into())),
+        ProgramPoint::Block(block) => Ok(block),
     }
 }
 
-// The block of a point; none for an instruction that is not inserted.
-fn point_block(tables: &Tables, pp: ProgramPoint) -> Option<Block>
-    requires { Sound tables.now }
-    ensures block { result ≡ point_block pp (program_of tables.now) }
-    ensures inserted { is_some result ≡ inserted_point pp (program_of tables.now) }
+// How two points of `block` stand to each other, by their numbers and in its walk. A step of its own, since the caller's proof did not close
+// without one.
+fn order_in(listing: &Listing, block: Block, a: ProgramPoint, b: ProgramPoint) -> Ordering
+    requires a { point_block a (program listing.now) ≡ Some block }
+    requires b { point_block b (program listing.now) ≡ Some block }
+    ensures numbers { result ≡ nat_cmp (point_seq a (program listing.now)) (point_seq b (program listing.now)) }
+    ensures walk { Ranked (program listing.now) a b result }
 {
-    match pp {
-        ProgramPoint::Inst(inst) => reads::inst_node(tables, inst).block,
-        ProgramPoint::Block(block) => Some(block),
-    }
-}
-
-// How two points of `block` stand to each other, by their numbers and in its walk.
-fn order_in(tables: &Tables, block: Block, a: ProgramPoint, b: ProgramPoint) -> Order
-    requires sound { Sound tables.now }
-    requires a { point_block a (program_of tables.now) ≡ Some block }
-    requires b { point_block b (program_of tables.now) ≡ Some block }
-    ensures numbers { result ≡ compared (point_seq a (program_of tables.now)) (point_seq b (program_of tables.now)) }
-    ensures walk { Ranked (program_of tables.now) a b result }
-{
-    Order::of(point_seq(tables, a), point_seq(tables, b))
+    let a_seq = point_seq(listing, a);
+    let b_seq = point_seq(listing, b);
+    a_seq.cmp(&b_seq)
 }
 
 // The number by which a point is compared: 0 for a block, which stands ahead of all its instructions.
-fn point_seq(tables: &Tables, pp: ProgramPoint) -> SequenceNumber
-    requires sound { Sound tables.now }
-    requires inserted { inserted_point pp (program_of tables.now) ≡ true }
-    ensures { result ≡ point_seq pp (program_of tables.now) }
+fn point_seq(listing: &Listing, pp: ProgramPoint) -> SequenceNumber
+    requires { inserted_point pp (program listing.now) ≡ true }
+    ensures { result ≡ point_seq pp (program listing.now) }
 {
     match pp {
-        ProgramPoint::Inst(inst) => reads::inst_node(tables, inst).seq,
+        ProgramPoint::Inst(inst) => reads::inst_node(listing, inst).seq,
         ProgramPoint::Block(_) => 0,
     }
 }

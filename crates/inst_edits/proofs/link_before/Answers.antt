@@ -19,6 +19,4 @@ pub set_inst_ends-requires : goal.set_inst_ends-requires
 set_inst_ends-requires c = its_block_low c.args.tables.now c.args.before c.args.block c.requires.sound c.requires.stands
 
 pub returns : goal.returns
-returns c =
-    let linked = put_before c.args.tables.now c.args.block c.args.inst _ _ _ _ _ _ _ c.requires.sound c.requires.range c.requires.fresh c.inst_ends-old.ensures c.insert_before-new.ensures.table c.insert_before-new.ensures.chain c.set_inst_ends.ensures c.set_block.ensures c.args.before refl refl c.requires.stands in
-    record { linked = record { linked = linked }; some = record { writes = _; program = _; linked = linked } }
+returns c = record { linked = put_before c.args.tables.now c.args.block c.args.inst _ _ _ _ _ _ _ c.requires.sound c.requires.range c.requires.fresh c.inst_ends-old.ensures c.insert_before-new.ensures.table c.insert_before-new.ensures.chain c.set_inst_ends.ensures c.set_block.ensures c.args.before refl refl c.requires.stands }

@@ -8,14 +8,15 @@ use Rattle.inst_edits.proofs.number_linked.Goals as goal
 pub inst_ends-first-requires : goal.inst_ends-first-requires
 inst_ends-first-requires c = linked_low c.args.tables.now c.args.inst c.args.block _ _ c.requires.linked
 
-pub number_inst-requires : goal.number_inst-requires
-number_inst-requires c = some_placed c.args.tables.now c.args.inst c.args.block _ (ap (λ (e : Ends Inst). e.first) c.inst_ends-first.ensures) _ _ c.requires.linked
+pub assign_inst_seq-requires : goal.assign_inst_seq-requires
+assign_inst_seq-requires c = some_placed c.args.tables.now c.args.inst c.args.block _ (ap (λ (e : Ends Inst). e.first) c.inst_ends-first.ensures) _ _ c.requires.linked
 
 pub returns : goal.returns
-returns c before at l =
-    let t = c.args.tables.now in
-    let i = c.args.inst in
-    let b = c.args.block in
+returns c =
     let first = ap (λ (e : Ends Inst). e.first) c.inst_ends-first.ensures in
-    let put = put_in t i b _ first _ _ c.number_inst.ensures in
-    let r = put _ _ l.linked in record { sound = r.0; count = r.1; program = r.2 }
+    let put = put_in c.args.tables.now c.args.inst c.args.block _ first _ _ c.assign_inst_seq.ensures in
+    record {
+      sound = (put _ _ c.requires.linked).0;
+      last = λ t l. let r = put _ _ l.linked in record { count = r.1; program = r.2 };
+      before = λ t before l. let r = put _ _ l.linked in record { count = r.1; program = r.2 };
+    }

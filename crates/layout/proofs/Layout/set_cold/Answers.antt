@@ -1,6 +1,0 @@
-use Rattle.std.proofs.Common.{refl}
-use Rattle.faults.proofs.Refusing.{refused_by}
-use Rattle.layout.proofs.Layout.set_cold.Goals as goal
-
-pub returns-in-Some : goal.returns-in-Some
-returns-in-Some c = record { rule = refused_by _ c.in-Some.fault _ _ _ c.in-Some.ensures; refused = refl }

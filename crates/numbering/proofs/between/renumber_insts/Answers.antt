@@ -1,5 +1,0 @@
-use Rattle.numbering.proofs.Pushes.{followed_then}
-use Rattle.numbering.proofs.between.renumber_insts.Goals as goal
-
-pub renumber_behind-requires : goal.renumber_behind-requires
-renumber_behind-requires c = record { followed = record { slots = _; followed = followed_then _ c.set_seq.ensures c.requires.followed.followed }; room = c.requires.room }
