@@ -1,20 +1,20 @@
 -- The chain of blocks edited in a listing: its links lead into the table, and what is written stands for the new list. Assumes nothing.
 use Rattle.std.proofs.Common.{◌≡◌, ◌<◌, true, false, List, [], length, Some, None, inl, inr, sym, refl, ◌∙◌, subst}
+use Rattle.std.proofs.lemmas.Option.{none-some}
 use Rattle.std.proofs.lemmas.Bool.{cases_Bool}
-use Rattle.chain.proofs.Keys.{none_some}
 use Rattle.chain.specs.Chain.{Inserts, Removes}
 use Rattle.chain.specs.Table.{Within, inserted_table, read_at, removed_table}
 use Rattle.chain.specs.declared.Ends.{Ends}
 use Rattle.entities.specs.Nodes.{block_links, block_place}
 use Rattle.entities.specs.Program.{append_block, insert_block, insert_block_after, remove_block, with_lines}
-use Rattle.entities.specs.Reading.{inserted_block, slots_of}
+use Rattle.entities.specs.Reading.{inserted_block, slots_of, BlockFree}
 use Rattle.entities.specs.declared.Block.{Block}
 use Rattle.entities.specs.declared.nodes.BlockNode.{BlockNode}
 use Rattle.listing.proofs.BlockEdits.{InTable, in_table, last_fits}
 use Rattle.listing.proofs.Landed.{block_appended, block_inserted, block_inserted_after, block_missing, block_removed, block_stands}
 use Rattle.listing.proofs.Props.{sound_out}
 use Rattle.listing.specs.Edits.{Becomes, after_blocks}
-use Rattle.listing.specs.Held.{BlockFree, program}
+use Rattle.listing.specs.Held.{program}
 use Rattle.listing.specs.Lawful.{BareBlock, Sound, listed, program_of}
 use Rattle.listing.specs.declared.Listing.{Listing}
 
@@ -36,19 +36,19 @@ module _ (l : Listing) where
   prev_low b k e =
       elim (cases_Bool (inserted_block b (program l))) [
         | inl stands ↦ subst (λ o. Within block_place (length l.tables.blocks) o) e (at b stands).prev
-        | inr out ↦ absurd (none_some k (sym (bare b out).prev ∙ e))
+        | inr out ↦ absurd (none-some k (sym (bare b out).prev ∙ e))
       ]
 
   pub next_low : (b k : Block) → read_at block_links.next_of l.tables.blocks b.0 ≡ Some k → k.0 < length l.tables.blocks
   next_low b k e =
       elim (cases_Bool (inserted_block b (program l))) [
         | inl stands ↦ subst (λ o. Within block_place (length l.tables.blocks) o) e (at b stands).next
-        | inr out ↦ absurd (none_some k (sym (bare b out).next ∙ e))
+        | inr out ↦ absurd (none-some k (sym (bare b out).next ∙ e))
       ]
 
   -- the table of blocks and the ends of its chain become bs and e
   module _ (b : Block) (bs : List BlockNode) (e : Ends Block) where
-    module _ (free : BlockFree b l) (table : bs ≡ inserted_table block_place block_links l.tables.blocks l.tables.ends.last None b) (chain : Inserts block_place block_links l.tables.blocks l.tables.ends b l.tables.ends.last None bs e) where
+    module _ (free : BlockFree b (program l)) (table : bs ≡ inserted_table block_place block_links l.tables.blocks l.tables.ends.last None b) (chain : Inserts block_place block_links l.tables.blocks l.tables.ends b l.tables.ends.last None bs e) where
       appended : Becomes l.tables (after_blocks l.tables bs e) (append_block b (listed l.tables))
       appended = block_appended l.tables b l.tables.ends bs e l.sound refl free.1 table chain
 
@@ -58,7 +58,7 @@ module _ (l : Listing) where
       pub appended_program : program_of (after_blocks l.tables bs e) ≡ with_lines (program l) (append_block b (listed l.tables))
       appended_program = appended.program
 
-    module _ (before : Block) (stands : inserted_block before (program l) ≡ true) (free : BlockFree b l) (table : bs ≡ inserted_table block_place block_links l.tables.blocks (read_at block_links.prev_of l.tables.blocks before.0) (Some before) b) (chain : Inserts block_place block_links l.tables.blocks l.tables.ends b (read_at block_links.prev_of l.tables.blocks before.0) (Some before) bs e) where
+    module _ (before : Block) (stands : inserted_block before (program l) ≡ true) (free : BlockFree b (program l)) (table : bs ≡ inserted_table block_place block_links l.tables.blocks (read_at block_links.prev_of l.tables.blocks before.0) (Some before) b) (chain : Inserts block_place block_links l.tables.blocks l.tables.ends b (read_at block_links.prev_of l.tables.blocks before.0) (Some before) bs e) where
       inserted : Becomes l.tables (after_blocks l.tables bs e) (insert_block b before (listed l.tables))
       inserted = block_inserted l.tables b l.tables.ends bs e l.sound refl before stands free.1 table chain
 
@@ -68,7 +68,7 @@ module _ (l : Listing) where
       pub inserted_program : program_of (after_blocks l.tables bs e) ≡ with_lines (program l) (insert_block b before (listed l.tables))
       inserted_program = inserted.program
 
-    module _ (after : Block) (stands : inserted_block after (program l) ≡ true) (free : BlockFree b l) (table : bs ≡ inserted_table block_place block_links l.tables.blocks (Some after) (read_at block_links.next_of l.tables.blocks after.0) b) (chain : Inserts block_place block_links l.tables.blocks l.tables.ends b (Some after) (read_at block_links.next_of l.tables.blocks after.0) bs e) where
+    module _ (after : Block) (stands : inserted_block after (program l) ≡ true) (free : BlockFree b (program l)) (table : bs ≡ inserted_table block_place block_links l.tables.blocks (Some after) (read_at block_links.next_of l.tables.blocks after.0) b) (chain : Inserts block_place block_links l.tables.blocks l.tables.ends b (Some after) (read_at block_links.next_of l.tables.blocks after.0) bs e) where
       inserted_after : Becomes l.tables (after_blocks l.tables bs e) (insert_block_after b after (listed l.tables))
       inserted_after = block_inserted_after l.tables b l.tables.ends bs e l.sound refl after stands free.1 table chain
 

@@ -7,9 +7,9 @@ ghost use Rattle.chain.specs.Chain.{keys_from};
 ghost use Rattle.chain.specs.Table.{read_at, Within};
 ghost use Rattle.entities.specs.Nodes.{ends_of, inst_links, inst_place};
 ghost use Rattle.entities.specs.Program.{split_block, with_lines};
-ghost use Rattle.entities.specs.Reading.{inst_block};
+ghost use Rattle.entities.specs.Reading.{inst_block, BlockFree};
 ghost use Rattle.listing.specs.Edits.{cut_off, ends_ahead, named};
-ghost use Rattle.listing.specs.Held.{program, BlockFree};
+ghost use Rattle.listing.specs.Held.{program};
 ghost use Rattle.listing.specs.Numbers.{SomeRun};
 
 use chain::{Ends, Key};
@@ -17,10 +17,12 @@ use entities::nodes::{InstNode, Tables};
 use entities::{Block, Inst};
 use listing::Listing;
 
+// As in `block_edits` and `inst_edits`, that a block is free and where an instruction stands are facts until the next edit, and so clauses.
+
 /// Puts `new_block` directly behind `block`, in which `before` stands, and moves `before` and all that follow it into it.
 #[tactic(auto, using(crate::proofs::Splitting::steps))]
 pub fn split_block(listing: &mut Listing, new_block: Block, before: Inst, block: Block)
-    requires free { BlockFree new_block listing.old }
+    requires free { BlockFree new_block (program listing.old) }
     requires stands { inst_block before (program listing.old) ≡ Some block }
     ensures { program listing.new ≡ with_lines (program listing.old) (split_block new_block before (program listing.old).lines) }
 {
@@ -31,7 +33,8 @@ pub fn split_block(listing: &mut Listing, new_block: Block, before: Inst, block:
     name_all(&mut tables.insts, Some(before), new_block);
 }
 
-// Links `before` and all that follow it as the chain of `new_block`, and leaves `block` what is ahead of them; they still name `block`.
+// Links `before` and all that follow it as the chain of `new_block`, and leaves `block` what is ahead of them; they still name `block`, so
+// the tables are no listing before `name_all`.
 #[tactic(auto, using(listing::proofs::Splits::cut_written))]
 fn cut_off(tables: &mut Tables, block: Block, before: Inst, new_block: Block)
     requires block { block.0 < length tables.old.blocks }

@@ -1,8 +1,9 @@
 -- What one changed link, and then an insertion or a removal, does to linked keys; over links as functions of keys, with no table.
 -- Assumes nothing.
 use Rattle.std.proofs.Common.{◌≡◌, List, [], ◌∷◌, ◌++◌, Some, None, Option, sym, refl, ◌∙◌}
+use Rattle.std.proofs.lemmas.Option.{none-some}
 use Rattle.chain.specs.Chain.{head_or, last_or, Misses, Distinct, Disjoint, Linked}
-use Rattle.chain.proofs.Keys.{none_some, head_or-append, misses_left, misses_right, distinct_left, distinct_right, distinct_across, disjoint_sym, disjoint_tail, disjoint_head, last_misses, head_misses, last_not, head_not}
+use Rattle.chain.proofs.Keys.{head_or-append, misses_left, misses_right, distinct_left, distinct_right, distinct_across, disjoint_sym, disjoint_tail, disjoint_head, last_misses, head_misses, last_not, head_not}
 
 -- the links a are kept, and the links b are changed at o alone, to l
 pub record Put {K : Type 0} (a b a' b' : K → Option K) (o l : Option K) : Type 0 where
@@ -65,7 +66,7 @@ module _ {K : Type 0} {prv nxt prv' nxt' : K → Option K} (k : K) (xs ys : List
   own : {a b c d : Option K} → Puts prv nxt prv' nxt' k (last_or None xs) (head_or ys None) a b c d → Misses (Some k) xs → Misses (Some k) ys → (prv' k ≡ a) × (nxt' k ≡ b)
   own u mx my = (
     u.put4.other k (head_not k ys my) ∙ u.put3.kept k ∙ u.put2.kept k ∙ u.put1.here k refl,
-    u.put4.kept k ∙ u.put3.other k (last_not k None xs (none_some k) mx) ∙ u.put2.here k refl,
+    u.put4.kept k ∙ u.put3.other k (last_not k None xs (none-some k) mx) ∙ u.put2.here k refl,
   )
 
   parts : {a b c d : Option K} → Puts prv nxt prv' nxt' k (last_or None xs) (head_or ys None) a b c d → (s o : Option K) → Misses (Some k) xs → Misses (Some k) ys → Distinct xs → Distinct ys → Disjoint xs ys → Linked prv nxt None xs s → Linked prv nxt o ys None → Linked prv' nxt' None xs c × Linked prv' nxt' d ys None

@@ -1,10 +1,11 @@
 -- What an edit of the table does to the chains in it. Assumes nothing.
 use Rattle.std.proofs.Common.{◌≡◌, ℕ, zero, suc, ◌<◌, List, [], ◌∷◌, ◌++◌, length, Some, None, Option, sym, refl, ap, ◌∙◌, subst, le_of_suc-le-suc, not-suc-le-zero}
+use Rattle.std.proofs.lemmas.Option.{none-some, same_Some}
 use Rattle.chain.specs.declared.Ends.{Ends}
 use Rattle.chain.specs.Links.{Links}
 use Rattle.chain.specs.Table.{alter, alter_at, read_at, Within, if_none, inserted_table, inserted_ends, removed_table, removed_ends, cut_table}
 use Rattle.chain.specs.Chain.{head_or, last_or, Misses, AllWithin, Chain, Parted, Inserts, Removes, Cuts}
-use Rattle.chain.proofs.Keys.{none_some, some_inj, last_or-append, misses_left, misses_right, distinct_left, distinct_right, distinct_across, distinct_both, disjoint_cons, disjoint_left, disjoint_right, last_misses, head_misses, disjoint_tail, disjoint_head, within_left, within_right, within_both, last_within, head_within}
+use Rattle.chain.proofs.Keys.{last_or-append, misses_left, misses_right, distinct_left, distinct_right, distinct_across, distinct_both, disjoint_cons, disjoint_left, disjoint_right, last_misses, head_misses, disjoint_tail, disjoint_head, within_left, within_right, within_both, last_within, head_within}
 use Rattle.chain.proofs.Walks.{chain_walked}
 use Rattle.chain.proofs.Chained.{Put, Puts, frame, insert_linked, remove_linked, split_left, split_right, spare_next, spare_prev, relast, rehead}
 
@@ -64,11 +65,11 @@ module _ {N K : Type 0} {place : K → ℕ} (apart : (a b : K) → place a ≡ p
 
   -- one kind of link is set, the other kept
   put : (kept_of set_of : N → Option K) (f : N → N) (l : Option K) → ((n : N) → kept_of (f n) ≡ kept_of n) → ((n : N) → set_of (f n) ≡ l) → (t : List N) (o : Option K) → Within place (length t) o → Put (λ k. read_at kept_of t (place k)) (λ k. read_at set_of t (place k)) (λ k. read_at kept_of (alter_at place t o f) (place k)) (λ k. read_at set_of (alter_at place t o f) (place k)) o l
-  put kept_of set_of f l k s t None w = record { kept = λ x. refl; other = λ x h. refl; here = λ x e. absurd (none_some x e) }
+  put kept_of set_of f l k s t None w = record { kept = λ x. refl; other = λ x h. refl; here = λ x e. absurd (none-some x e) }
   put kept_of set_of f l k s t (Some y) w = record {
     kept = λ x. read_kept f kept_of k t (place y) (place x);
     other = λ x h. link_spared set_of f t (Some y) x h;
-    here = λ x e. subst (λ z. read_at set_of (alter t (place y) f) (place z) ≡ l) (some_inj y x e) (read_here f set_of l s t (place y) w);
+    here = λ x e. subst (λ z. read_at set_of (alter t (place y) f) (place z) ≡ l) (same_Some y x e) (read_here f set_of l s t (place y) w);
   }
 
 -- ---- ends

@@ -1,6 +1,6 @@
 -- Lists of keys: ends, and which keys they miss. Assumes nothing.
 use Rattle.std.proofs.Common.{◌≡◌, ℕ, List, [], ◌∷◌, ◌++◌, Some, None, Option, sym, refl}
-pub use Rattle.std.proofs.lemmas.Option.{none-some as none_some, same_Some as some_inj}
+use Rattle.std.proofs.lemmas.Option.{none-some}
 use Rattle.chain.specs.Table.{Within}
 use Rattle.chain.specs.Chain.{head_or, last_or, Misses, Distinct, Disjoint, AllWithin}
 
@@ -27,7 +27,7 @@ module _ {K : Type 0} where
 
   pub none_misses : (ys : List K) → Misses None ys
   none_misses [] = tt
-  none_misses (y ∷ ys) = (none_some y, none_misses ys)
+  none_misses (y ∷ ys) = (none-some y, none_misses ys)
 
   pub distinct_left : (xs ys : List K) → Distinct (xs ++ ys) → Distinct xs
   distinct_left [] ys d = tt
@@ -91,7 +91,7 @@ module _ {K : Type 0} where
   last_not k o (x ∷ xs) h m = last_not k (Some x) xs (λ e. m.0 (sym e)) m.1
 
   pub head_not : (k : K) (xs : List K) → Misses (Some k) xs → head_or xs None ≡ Some k → ⊥
-  head_not k [] m = none_some k
+  head_not k [] m = none-some k
   head_not k (x ∷ xs) m = λ e. m.0 (sym e)
 
   module _ (place : K → ℕ) (n : ℕ) where

@@ -1,17 +1,17 @@
 -- Which keys a chain has, told from the links. Assumes nothing.
 use Rattle.std.proofs.Common.{◌≡◌, ℕ, zero, suc, List, [], ◌∷◌, map, length, Some, None, Option, sym, refl, ap, ◌∙◌}
+use Rattle.std.proofs.lemmas.Option.{none-some, same_Some}
 use Rattle.chain.specs.Links.{Links}
 use Rattle.chain.specs.declared.Ends.{Ends}
 use Rattle.chain.specs.Table.{alter, alter_at, read_at, inserted_table, removed_table, cut_table}
 use Rattle.chain.specs.Chain.{head_or, Misses, Linked, Chain}
-use Rattle.chain.proofs.Keys.{none_some, some_inj}
 use Rattle.chain.proofs.Edits.{link_spared, read_kept, length-alter_at}
 
 -- behind another key each has a link back
 behind : {K : Type 0} (prv nxt : K → Option K) (k p : K) (ks : List K) (s : Option K) → prv k ≡ None → Linked prv nxt (Some p) ks s → Misses (Some k) ks
 behind prv nxt k p [] s h l = tt
 behind prv nxt k p (x ∷ xs) s h l =
-    (λ e. none_some p (sym h ∙ ap prv (some_inj k x e) ∙ l.0), behind prv nxt k x xs s h l.2)
+    (λ e. none-some p (sym h ∙ ap prv (same_Some k x e) ∙ l.0), behind prv nxt k x xs s h l.2)
 
 misses_by : {K : Type 0} (prv nxt : K → Option K) (k : K) (ks : List K) → (head_or ks None ≡ Some k → ⊥) → prv k ≡ None → Linked prv nxt None ks None → Misses (Some k) ks
 misses_by prv nxt k [] f h l = tt

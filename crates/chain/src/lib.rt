@@ -50,9 +50,8 @@ pub struct Ends<K> {
     pub last: Option<K>,
 }
 
-// The operations take the slice and the ends apart, and no struct that holds both: a rule of the project has them written over a slice
-// of any kind of node, as a table that came from elsewhere is. So the links and keys that they touch have to lie inside it, and no type
-// says so: an `Ends` has no table.
+// The operations take the slice and the ends apart, and no struct that holds both: they are to serve any slice of nodes, also one that came
+// from elsewhere (docs/DECISIONS.md, "Chains over slices"). So each asks that the links and keys which it touches lie inside the slice.
 
 /// Puts `key` at the end of the chain.
 pub fn append<N: LinkedNode>(nodes: &mut [N], ends: Ends<N::Key>, key: N::Key) -> Ends<N::Key>
@@ -126,6 +125,9 @@ pub fn cut<N: LinkedNode>(nodes: &mut [N], key: N::Key) -> Option<N::Key>
     cut_between(nodes, prev, key);
     prev
 }
+
+// The law of each operation has a proof by hand. So these three are steps of their own: in a public function such a proof would hide a
+// wrong edit. Putting in and taking out share two changes of a node and two tests of other values, and would be no plainer as one.
 
 // Puts `key` between `prev` and `next`, either of which may be absent.
 fn put_between<N: LinkedNode>(

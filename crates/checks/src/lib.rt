@@ -28,7 +28,16 @@ mod tests {
         }
     }
 
-    // A call as data, and no closure: the tables below are constants.
+    impl From<Point> for Entity {
+        fn from(p: Point) -> Entity {
+            match p {
+                Point::B(n) => Entity::Block(Block::from_u32(n)),
+                Point::I(n) => Entity::Inst(Inst::from_u32(n)),
+            }
+        }
+    }
+
+    // A call as data, and no closure: so a table shows number and arguments of each.
     #[derive(Clone, Copy)]
     enum Call {
         AppendBlock(u32),
@@ -38,7 +47,7 @@ mod tests {
         PpCmp(Point, Point),
     }
 
-    // The number of a refusal, and the entity at fault.
+    // The number of a refusal, which is what a user is told, and the entity at fault.
     #[derive(Clone, Copy)]
     struct Refusal(u32, Point);
 
@@ -172,7 +181,7 @@ mod tests {
         (Point::I(2), Point::I(2), Ordering::Equal),
     ];
 
-    // The fault of a call, none where it is accepted.
+    // The fault of a call, none where it is accepted: an `Option`, as the refusal of a case is one.
     fn fault_of(layout: &mut Layout, call: Call) -> Option<LayoutFault> {
         match call {
             Call::AppendBlock(b) => layout.append_block(Block::from_u32(b)).err(),
@@ -186,16 +195,12 @@ mod tests {
     }
 
     fn holds(layout: &mut Layout, case: Case) -> bool {
-        match (fault_of(layout, case.0), case.1) {
-            (None, None) => true,
-            (Some(fault), Some(Refusal(number, point))) => {
-                let entity = Entity::from(ProgramPoint::from(point));
-                fault.number() == number
-                    && fault.layer() == Layer::Layout
-                    && fault.entity() == entity
-            }
-            _ => false,
-        }
+        let told = fault_of(layout, case.0).map(|fault| (
+            fault.number(),
+            fault.layer(),
+            fault.entity(),
+        ));
+        told == case.1.map(|Refusal(number, point)| (number, Layer::Layout, Entity::from(point)))
     }
 
     // As any question takes a block and an instruction of this number that never were inserted.
@@ -247,7 +252,7 @@ mod tests {
         let _ = layout.append_inst(Inst::from_u32(2), home);
         assert!(rt; !layout.block_contains_exactly_one_inst(home));
         for (a, b, order) in RANKS {
-            assert!(rt; layout.pp_cmp(a.into(), b.into()).ok() == Some(order));
+            assert!(rt; layout.pp_cmp(a.into(), b.into()) == Ok(order));
         }
     }
 
@@ -256,10 +261,10 @@ mod tests {
     fn a_full_layout(rt: HostRuntime) {
         let mut layout = Layout::new();
         for n in 0..256 {
-            assert!(rt; holds(&mut layout, Case(Call::AppendBlock(255 - n), None),));
+            assert!(rt; holds(&mut layout, Case(Call::AppendBlock(255 - n), None)));
         }
         for n in 0..1024 {
-            assert!(rt; holds(&mut layout, Case(Call::AppendInst(n, n % 256), None),));
+            assert!(rt; holds(&mut layout, Case(Call::AppendInst(n, n % 256), None)));
         }
         for n in 0..1024 {
             let seq = layout.inst_seq(Inst::from_u32(n)) == Some(10 * (n / 256 + 1));
@@ -297,7 +302,7 @@ mod tests {
         let home = Block::from_u32(0);
         let _ = layout.append_block(home);
         for n in 0..1024 {
-            assert!(rt; layout.append_inst(Inst::from_u32(n), home).ok() == Some(1));
+            assert!(rt; layout.append_inst(Inst::from_u32(n), home) == Ok(1));
             assert!(rt; layout.inst_seq(Inst::from_u32(n)) == Some(10 * (n + 1)));
         }
         assert!(rt; layout.block_insts(home).eq((0..1024).map(Inst::from_u32)));
@@ -351,6 +356,7 @@ mod tests {
         }
     }
 
+    // The numbers themselves are what is asked for here, so they are compared as numbers.
     #[test]
     fn numbers_of_entities(rt: HostRuntime) {
         let highest = Block::from_u32(4294967295).as_u32() == Inst::from_u32(4294967295).as_u32();

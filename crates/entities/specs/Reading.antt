@@ -1,5 +1,5 @@
 -- What every question of a layout answers, read off the list. Assumes nothing.
-use Rattle.std.specs.Prelude.{◌≡◌, ℕ, Bool, true, false, cond, List, [], ◌∷◌, ◌++◌, map, Some, None, Option, nat_eq, slice_index_or}
+use Rattle.std.specs.Prelude.{◌≡◌, ◌<◌, ℕ, Bool, true, false, cond, List, [], ◌∷◌, ◌++◌, map, Some, None, Option, nat_eq, slice_index_or}
 use Rattle.chain.specs.Chain.{head_or, last_or}
 use Rattle.entities.specs.declared.Block.{Block}
 use Rattle.entities.specs.declared.Inst.{Inst}
@@ -91,6 +91,14 @@ inst_seq i p = of_inst i (λ l. seq_in i l.slots) 0 p.lines
 -- its number where it is inserted: nothing reads the number of what is not
 abbrev pub shown_seq : Inst → Program → Option ℕ
 shown_seq i p = cond (inserted_inst i p) (Some (inst_seq i p)) None
+
+-- ---- what may be put in: it is in range and not inserted
+
+abbrev pub BlockFree : Block → Program → Type 0
+BlockFree b p = (b.0 < 256) × (inserted_block b p ≡ false)
+
+abbrev pub InstFree : Inst → Program → Type 0
+InstFree i p = (i.0 < 1024) × (inserted_inst i p ≡ false)
 
 -- ---- points
 

@@ -18,9 +18,10 @@ pub const BLOCK_CAPACITY: usize = 256;
 pub const INST_CAPACITY: usize = 1024;
 
 /// A block of the program, by its number.
-#[derive(Clone, Copy, PartialEq, Eq)]
+#[derive(Clone, Copy, PartialEq, Eq, Debug)]
 pub struct Block(u32);
 
+// The conversions have the names of the crate that this is a port of.
 impl Block {
     /// The block with this number; none for 4,294,967,295.
     pub fn with_number(n: u32) -> Option<Block>
@@ -55,11 +56,11 @@ impl Key for Block {
     }
 }
 
-// `Inst` has the methods of `Block` over again, and no type or trait that both share: a rule of the project keeps the two numbers apart, so
-// that neither ever passes for the other.
+// `Inst` has the methods of `Block` over again: the two numbers are structs of their own, with no type between them through which one could
+// pass for the other (docs/DECISIONS.md, "Two numbers").
 
 /// An instruction of the program, by its number.
-#[derive(Clone, Copy, PartialEq, Eq)]
+#[derive(Clone, Copy, PartialEq, Eq, Debug)]
 pub struct Inst(u32);
 
 impl Inst {

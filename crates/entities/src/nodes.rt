@@ -14,6 +14,7 @@ pub type SequenceNumber = u32;
 pub struct BlockNode {
     pub prev: Option<Block>,
     pub next: Option<Block>,
+    // two fields and no `Ends`, as in the crate that this is a port of
     pub first_inst: Option<Inst>,
     pub last_inst: Option<Inst>,
     pub cold: bool,
@@ -76,7 +77,8 @@ impl InstNode {
     };
 }
 
-// As for `BlockNode`: a rule of the project has each kind of node show by itself that a link set is the link read, and spares the rest.
+// As for `BlockNode`: each kind of node shows for itself that a link set is the link read, and that setting it spares the rest
+// (docs/DECISIONS.md, "Two numbers").
 impl LinkedNode for InstNode {
     type Key = Inst;
 
@@ -104,7 +106,8 @@ impl LinkedNode for InstNode {
 }
 
 /// The two node tables with the ends of the chain of blocks. Nodes name one another by index in arrays of fixed size, and not by `Box`: a
-/// controller has that much memory and no heap, and such tables are what another controller sends.
+/// controller has that much memory and no heap, and such tables are what another controller sends
+/// (docs/DECISIONS.md, "Fixed tables inside the layout").
 #[derive(Drop)]
 pub struct Tables {
     pub blocks: [BlockNode; BLOCK_CAPACITY],

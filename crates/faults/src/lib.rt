@@ -8,11 +8,11 @@ ghost use Rattle.faults.specs.Text.{layer_text, entity_text};
 
 use entities::progpoint::ProgramPoint;
 use entities::{Block, Inst};
+use std::error::Error;
 use std::fmt;
-use std::fmt::Display;
 
 /// Who asks a question.
-#[derive(Clone, Copy, PartialEq, Eq)]
+#[derive(Clone, Copy, PartialEq, Eq, Debug)]
 pub enum Layer {
     Layout,
     Cursor,
@@ -21,7 +21,7 @@ pub enum Layer {
 
 /// A block or an instruction, as the thing at fault. It has the cases of `ProgramPoint` and is no point: it has no place in a walk, and a
 /// number out of range is at fault too.
-#[derive(Clone, Copy, PartialEq, Eq)]
+#[derive(Clone, Copy, PartialEq, Eq, Debug)]
 pub enum Entity {
     Block(Block),
     Inst(Inst),
@@ -39,7 +39,7 @@ impl From<ProgramPoint> for Entity {
 }
 
 /// Why the layout refuses a call.
-#[derive(Clone, Copy, PartialEq, Eq)]
+#[derive(Clone, Copy, PartialEq, Eq, Debug)]
 pub enum LayoutFault {
     /// A number given is outside the layout's range.
     OutOfRange(Entity),
@@ -54,7 +54,7 @@ pub enum LayoutFault {
 }
 
 impl LayoutFault {
-    /// The number of the question that was answered no.
+    /// The number of the question that was answered no: what the user of a handset is told, and looks up.
     pub fn number(self) -> u32
         ensures { result ≡ (refusal_of self).number }
     {
@@ -105,21 +105,14 @@ impl fmt::Display for Entity {
 
     fn fmt<W: fmt::Write>(&self, f: &mut fmt::Formatter<W>) -> fmt::Result {
         match self {
-            Entity::Block(block) => {
-                let number = block.as_u32();
-                write!(f, "block{number}")
-            }
-            Entity::Inst(inst) => {
-                let number = inst.as_u32();
-                write!(f, "inst{number}")
-            }
+            Entity::Block(block) => write!(f, "block{}", block.as_u32()),
+            Entity::Inst(inst) => write!(f, "inst{}", inst.as_u32()),
         }
     }
 }
 
 impl fmt::Display for LayoutFault {
     fn fmt<W: fmt::Write>(&self, f: &mut fmt::Formatter<W>) -> fmt::Result {
-        let (number, layer, entity) = (self.number(), self.layer(), self.entity());
         let reason = match self {
             LayoutFault::OutOfRange(_) => "is out of range",
             LayoutFault::NotInserted(_) => "is not inserted",
@@ -127,6 +120,14 @@ impl fmt::Display for LayoutFault {
             LayoutFault::NotEmpty(_) => "has instructions",
             LayoutFault::DifferentBlocks(_) => "is in another block",
         };
-        write!(f, "refused with {number} by the {layer}: {entity} {reason}")
+        write!(
+            f,
+            "refused with {} by the {}: {} {reason}",
+            self.number(),
+            self.layer(),
+            self.entity()
+        )
     }
 }
+
+impl Error for LayoutFault {}

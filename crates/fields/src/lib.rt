@@ -12,6 +12,8 @@ use chain::{Ends, Key};
 use entities::nodes::{BlockNode, InstNode};
 use entities::{Block, Inst};
 
+// These work on the slices themselves, as the operations of chains do, and ask that what they are given lies inside.
+
 /// The first and the last instruction of `block`.
 #[tactic(auto, using(listing::proofs::Parts::ends_read))]
 pub fn inst_ends(blocks: &[BlockNode], block: Block) -> Ends<Inst>

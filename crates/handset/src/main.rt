@@ -71,7 +71,7 @@ impl Display for Numbered {
     fn fmt<W: fmt::Write>(&self, f: &mut fmt::Formatter<W>) -> fmt::Result {
         let seq = self.0.unwrap_or(0);
         match INSTS.iter().find(|entry| entry.0 == self.1.as_u32()) {
-            Some((_, _, what)) => write!(f, "  {seq:>4}  {what}\n"),
+            Some((_, _, what)) => writeln!(f, "  {seq:>4}  {what}"),
             None => Ok(()),
         }
     }
@@ -84,13 +84,13 @@ struct Named(Block);
 impl Display for Named {
     fn fmt<W: fmt::Write>(&self, f: &mut fmt::Formatter<W>) -> fmt::Result {
         match BLOCKS.iter().find(|entry| entry.0 == self.0.as_u32()) {
-            Some((_, what)) => write!(f, "{what}\n"),
+            Some((_, what)) => writeln!(f, "{what}"),
             None => Ok(()),
         }
     }
 }
 
-// The whole program, block by block, first to last.
+// The whole program, block by block, first to last. Its text is put together of theirs; backward differs in both of its iterators.
 #[derive(Drop)]
 struct Forward<'a>(&'a Layout);
 
@@ -113,6 +113,7 @@ struct Backward<'a>(&'a Layout);
 impl Display for Backward<'_> {
     fn fmt<W: fmt::Write>(&self, f: &mut fmt::Formatter<W>) -> fmt::Result {
         let back = successors(self.0.last_block(), |block| self.0.prev_block(*block));
+        // no walk has more blocks than a layout keeps, which the steps by themselves do not say
         for block in back.take(BLOCK_CAPACITY) {
             Named(block).fmt(f)?;
             for inst in self.0.block_insts(block).rev() {

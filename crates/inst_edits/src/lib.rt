@@ -2,14 +2,14 @@
 
 #![tactic(auto)]
 
-ghost use Rattle.std.specs.Prelude.{◌≡◌, ◌<◌, true, false, length, None, Some};
+ghost use Rattle.std.specs.Prelude.{◌≡◌, ◌<◌, true, length, None, Some};
 ghost use Rattle.entities.specs.declared.Inst.{Inst as InstOf};
 ghost use Rattle.entities.specs.declared.nodes.Tables.{Tables as TablesOf};
 ghost use Rattle.entities.specs.Numbering.{appended_inst, inserted_before, numbered_before, numbered_last};
 ghost use Rattle.entities.specs.Program.{remove_inst, with_lines};
-ghost use Rattle.entities.specs.Reading.{inserted_block, inserted_inst, inst_block, slots_of, slots_with};
+ghost use Rattle.entities.specs.Reading.{inserted_block, inst_block, slots_of, slots_with, InstFree};
 ghost use Rattle.listing.specs.Edits.{Becomes};
-ghost use Rattle.listing.specs.Held.{InstFree, program};
+ghost use Rattle.listing.specs.Held.{program};
 ghost use Rattle.listing.specs.Lawful.{Sound, listed, program_of};
 ghost use Rattle.inst_edits.specs.Put.{Appended, Inserted, LinkedBefore, LinkedLast, SomeLinked};
 ghost use Rattle.inst_edits.specs.Removal.{TakenOut};
@@ -19,9 +19,12 @@ use entities::nodes::Tables;
 use entities::{Block, Inst};
 use listing::Listing;
 
+// That an instruction is free, or stands in a block, is a fact of this listing until its next edit. No type of the number could hold it, so
+// it is a clause.
+
 /// Puts `inst` at the end of `block` and numbers it. Returns how many numbers were stored.
 pub fn append_inst(listing: &mut Listing, inst: Inst, block: Block) -> u32
-    requires free { InstFree inst listing.old }
+    requires free { InstFree inst (program listing.old) }
     requires inserted { inserted_block block (program listing.old) ≡ true }
     ensures count { result ≡ (numbered_last (slots_of block (program listing.old)) inst).writes }
     ensures program { program listing.new ≡ appended_inst inst block (program listing.old) }
@@ -33,7 +36,7 @@ pub fn append_inst(listing: &mut Listing, inst: Inst, block: Block) -> u32
 
 /// Puts `inst` directly ahead of `before`, which stands in `block`, and numbers it. Returns how many numbers were stored.
 pub fn insert_inst(listing: &mut Listing, inst: Inst, before: Inst, block: Block) -> u32
-    requires free { InstFree inst listing.old }
+    requires free { InstFree inst (program listing.old) }
     requires stands { inst_block before (program listing.old) ≡ Some block }
     ensures count { result ≡ (numbered_before inst before (slots_with before (program listing.old))).writes }
     ensures program { program listing.new ≡ inserted_before inst before (program listing.old) }
@@ -54,13 +57,13 @@ pub fn remove_inst(listing: &mut Listing, inst: Inst, block: Block)
 }
 
 // Between linking and numbering the tables are no listing, since the number that the node happens to hold may not rise. So these steps
-// ask for `Sound` by a clause. The two ways of linking are no plainer as one function: each finds its neighbours by another fact.
+// ask for `Sound` by a clause. The two ways of linking and `close_up` are no plainer as one function: each finds its neighbours by another
+// fact.
 
 // Links `inst` in at the end of `block`, which it then names.
 fn link_last(tables: &mut Tables, inst: Inst, block: Block)
     requires sound { Sound tables.old }
-    requires range { inst.0 < 1024 }
-    requires fresh { inserted_inst inst (program_of tables.old) ≡ false }
+    requires free { InstFree inst (program_of tables.old) }
     requires inserted { inserted_block block (program_of tables.old) ≡ true }
     ensures { LinkedLast tables.old tables.new inst block }
 {
@@ -73,8 +76,7 @@ fn link_last(tables: &mut Tables, inst: Inst, block: Block)
 // Links `inst` in directly ahead of `before`, in its block, which `inst` then names.
 fn link_before(tables: &mut Tables, inst: Inst, before: Inst, block: Block)
     requires sound { Sound tables.old }
-    requires range { inst.0 < 1024 }
-    requires fresh { inserted_inst inst (program_of tables.old) ≡ false }
+    requires free { InstFree inst (program_of tables.old) }
     requires stands { inst_block before (program_of tables.old) ≡ Some block }
     ensures { LinkedBefore tables.old tables.new inst before block }
 {
@@ -95,7 +97,8 @@ fn number_linked(tables: &mut Tables, inst: Inst, block: Block) -> u32
     numbering::assign_inst_seq(&mut tables.insts, first, inst)
 }
 
-// After `inst` was taken out of the chain of `block`: the block gets the new `ends`, and the node of `inst` names `name`.
+// After `inst` was taken out of the chain of `block`: the block gets the new `ends`, and the node of `inst` names `name`,
+// which is none: it is a parameter so that a wrong name is refused where it is given.
 fn close_up(tables: &mut Tables, inst: Inst, block: Block, ends: Ends<Inst>, name: Option<Block>)
     requires inst { inst.0 < length tables.old.insts }
     requires block { block.0 < length tables.old.blocks }

@@ -1,9 +1,11 @@
 -- Edits of the block chain. Assumes nothing.
 use Rattle.std.proofs.Common.{◌≡◌, ℕ, ◌<◌, List, [], ◌∷◌, ◌++◌, length, Some, None, Option, sym, refl, ap, ◌∙◌, subst, inl, inr, append-nil}
+use Rattle.std.proofs.lemmas.Option.{none-some, same_Some}
+use Rattle.std.proofs.lemmas.List.{map-append}
 use lib.Seq.{append_snoc}
 use Rattle.std.proofs.lemmas.Bool.{cases_eq}
 use Rattle.chain.proofs.Chained.{split_right}
-use Rattle.chain.proofs.Keys.{distinct_right, head_not, head_within, last_or-append, last_not, last_within, misses_both, misses_left, misses_right, none_some, some_inj, within_left, within_right}
+use Rattle.chain.proofs.Keys.{distinct_right, head_not, head_within, last_or-append, last_not, last_within, misses_both, misses_left, misses_right, within_left, within_right}
 use Rattle.chain.proofs.Members.{inserted_away, inserted_keeps, inserted_map, length_inserted, length_removed, removed_away, removed_keeps, removed_map}
 use Rattle.chain.proofs.Walks.{last_in}
 use Rattle.chain.specs.Chain.{Chain, Inserts, Misses, Removes, head_or, last_or}
@@ -16,7 +18,7 @@ use Rattle.entities.specs.declared.Block.{Block}
 use Rattle.entities.specs.declared.Inst.{Inst}
 use Rattle.entities.specs.declared.nodes.BlockNode.{BlockNode}
 use Rattle.entities.specs.declared.nodes.Tables.{Tables}
-use Rattle.listing.proofs.Found.{block_apart, block_instead, insts_in-append, locate, map-append}
+use Rattle.listing.proofs.Found.{block_apart, block_instead, insts_in-append, locate}
 use Rattle.listing.proofs.Frames.{blocks_edited, filled_both, filled_left, filled_right}
 use Rattle.listing.proofs.Unique.{program_is, sound_from}
 use Rattle.listing.specs.Edits.{BlockIn, BlockOut, Edited, after_blocks}
@@ -110,7 +112,7 @@ module _ (t u : Tables) (k : Block) (xs ys : List Line) (p n : Option Block) (la
       let mx = misses_left (Some b) bx (k ∷ by) m0 in
       let mk = misses_right (Some b) bx (k ∷ by) m0 in
       let old = r.bare_blocks b (subst (λ ks. Misses (Some b) ks) (sym (map-append (λ l. l.block) xs ys)) (misses_both (Some b) bx by mx mk.1)) in
-      let hp : p ≡ Some b → ⊥ = λ e. last_not b None bx (none_some b) mx (sym ep ∙ e) in
+      let hp : p ≡ Some b → ⊥ = λ e. last_not b None bx (none-some b) mx (sym ep ∙ e) in
       let hn : n ≡ Some b → ⊥ = λ e. head_not b by mk.1 (sym en ∙ e) in
       let hk : Some k ≡ Some b → ⊥ = λ e. mk.0 (sym e) in
       record {
@@ -152,9 +154,9 @@ module _ (t u : Tables) (k : Block) (xs : List Line) (l : Line) (ys : List Line)
               last = last k ∙ ap (λ (x : Block). read_at last_of t.blocks x.0) (sym here) ∙ fl.chain.last ∙ ap (λ is. last_or None is) no_insts;
             })
         | inr ne ↦
-            let hk : Some k ≡ Some b → ⊥ = λ e. ne (ap block_place (sym (some_inj k b e))) in
+            let hk : Some k ≡ Some b → ⊥ = λ e. ne (ap block_place (sym (same_Some k b e))) in
             let old = r.bare_blocks b (subst (λ ks. Misses (Some b) ks) (sym (map-append (λ l. l.block) xs (l ∷ ys))) (misses_both (Some b) bx (l.block ∷ by) mx (λ e. hk (sym (e ∙ ap Some here)), my))) in
-            let hp : p ≡ Some b → ⊥ = λ e. last_not b None bx (none_some b) mx (sym ep ∙ e) in
+            let hp : p ≡ Some b → ⊥ = λ e. last_not b None bx (none-some b) mx (sym ep ∙ e) in
             let hn : n ≡ Some b → ⊥ = λ e. head_not b by my (sym en ∙ e) in
             record {
               prev = ap (λ bs. read_at block_links.prev_of bs b.0) blocks ∙ removed_away block_apart block_links block_links.prev_of t.blocks p n k b hp hn hk ∙ old.prev;

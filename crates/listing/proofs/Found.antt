@@ -1,7 +1,8 @@
 -- Where a key stands in a list, and what `instead_where` makes there. Assumes nothing.
 use Rattle.std.proofs.Common.{◌≡◌, ℕ, Bool, true, false, cond, ◌⊎◌, List, [], ◌∷◌, ◌++◌, map, Some, sym, refl, ap, ◌∙◌, inl, inr}
+use Rattle.std.proofs.lemmas.Option.{same_Some}
 use Rattle.std.proofs.lemmas.Bool.{cases_eq, eq-eqb, ne_eqb}
-use Rattle.chain.proofs.Keys.{misses_left, misses_right, some_inj}
+use Rattle.chain.proofs.Keys.{misses_left, misses_right}
 use Rattle.chain.specs.Chain.{Misses}
 use Rattle.entities.specs.Nodes.{block_place, inst_place}
 use Rattle.entities.specs.Lists.{ahead_of, from_on}
@@ -38,16 +39,12 @@ module _ {A K : Type 0} (place : K → ℕ) (apart : (a b : K) → place a ≡ p
       elim (cases_eq (place (key x)) (place k)) [
         | inl e ↦ inr (record { ahead = []; it = x; behind = xs; is = refl; here = apart (key x) k e; clear = tt })
         | inr h ↦
-            let ne : Some k ≡ Some (key x) → ⊥ = λ q. h (ap place (sym (some_inj k (key x) q))) in
+            let ne : Some k ≡ Some (key x) → ⊥ = λ q. h (ap place (sym (same_Some k (key x) q))) in
             elim (locate xs) [
               | inl m ↦ inl (ne, m)
               | inr f ↦ inr (record { ahead = x ∷ f.ahead; it = f.it; behind = f.behind; is = ap (λ r. x ∷ r) f.is; here = f.here; clear = (ne, f.clear) })
             ]
       ]
-
-pub map-append : {A B : Type 0} (f : A → B) (xs ys : List A) → map f (xs ++ ys) ≡ map f xs ++ map f ys
-map-append f [] ys = refl
-map-append f (x ∷ xs) ys = ap (λ r. f x ∷ r) (map-append f xs ys)
 
 pub insts_in-append : (xs ys : List Line) → insts_of (xs ++ ys) ≡ insts_of xs ++ insts_of ys
 insts_in-append [] ys = refl

@@ -1,7 +1,9 @@
 -- What an edit leaves: one lemma for edits of the block chain, one for edits of instruction chains. Assumes nothing.
 use Rattle.std.proofs.Common.{◌≡◌, ◌⊎◌, List, [], ◌∷◌, ◌++◌, length, Some, None, Option, sym, ap, ◌∙◌, subst, inl, inr}
+use Rattle.std.proofs.lemmas.Option.{same_Some}
+use Rattle.std.proofs.lemmas.List.{map-append}
 use Rattle.chain.proofs.Chained.{frame}
-use Rattle.chain.proofs.Keys.{disjoint_left, disjoint_nil, disjoint_right, disjoint_sym, distinct_across, distinct_right, misses_both, misses_left, misses_right, none_misses, some_inj}
+use Rattle.chain.proofs.Keys.{disjoint_left, disjoint_nil, disjoint_right, disjoint_sym, distinct_across, distinct_right, misses_both, misses_left, misses_right, none_misses}
 use Rattle.chain.specs.Chain.{AllWithin, Chain, Disjoint, Distinct, Linked, Misses}
 use Rattle.chain.specs.Table.{read_at}
 use Rattle.chain.specs.declared.Ends.{Ends}
@@ -12,7 +14,7 @@ use Rattle.entities.specs.declared.Inst.{Inst}
 use Rattle.entities.specs.declared.nodes.BlockNode.{BlockNode}
 use Rattle.entities.specs.declared.nodes.InstNode.{InstNode}
 use Rattle.entities.specs.declared.nodes.Tables.{Tables}
-use Rattle.listing.proofs.Found.{insts_in-append, map-append}
+use Rattle.listing.proofs.Found.{insts_in-append}
 use Rattle.listing.specs.Lawful.{AllFilled, BareBlock, BareInst, Filled, Held, Represents}
 
 -- ---- lists of lines
@@ -35,7 +37,7 @@ filled_both v (x ∷ xs) ys a b = (a.0, filled_both v xs ys a.1 b)
 pub held_misses : (t : List InstNode) (b : Block) (ss : List Slot) (i : Inst) → (read_at block_named t i.0 ≡ Some b → ⊥) → Held t b ss → Misses (Some i) (insts_in ss)
 held_misses t b [] i h o = tt
 held_misses t b (s ∷ ss) i h o =
-    (λ e. h (ap (λ (q : Inst). read_at block_named t q.0) (some_inj i s.inst e) ∙ o.0), held_misses t b ss i h o.2)
+    (λ e. h (ap (λ (q : Inst). read_at block_named t q.0) (same_Some i s.inst e) ∙ o.0), held_misses t b ss i h o.2)
 
 -- one that names b is not among the lines of others
 pub named_misses : (v : Tables) (i : Inst) (b : Block) (ls : List Line) → read_at block_named v.insts i.0 ≡ Some b → AllFilled v ls → Misses (Some b) (blocks_of ls) → Misses (Some i) (insts_of ls)
@@ -128,7 +130,7 @@ lines_edited v w xs ls new ys touched r ends names blocks size far dx dy filled 
     let fx = filled_left v xs (ls ++ ys) r.lines in
     let fy = filled_right v ls ys (filled_right v xs (ls ++ ys) r.lines) in
     let gx = all_moved v w touched size far xs bl blocks.ends (disjoint_trim bx bl by across) dx fx in
-    let gy = all_moved v w touched size far ys bl blocks.ends (disjoint_flip bl by (distinct_across bl by rest)) dy fy in
+    let gy = all_moved v w touched size far ys bl blocks.ends (disjoint_sym bl by (distinct_across bl by rest)) dy fy in
     let names_kept : blocks_of (xs ++ (new ++ ys)) ≡ blocks_of (xs ++ (ls ++ ys)) = sym same in
     record {
       blocks = subst (λ e. Chain block_place block_links w.blocks e (blocks_of (xs ++ (new ++ ys)))) (sym ends) (subst (λ ks. Chain block_place block_links w.blocks v.ends ks) same (chain_kept v.blocks w.blocks bl blocks v.ends (blocks_of (xs ++ (ls ++ ys))) r.blocks));
@@ -162,9 +164,6 @@ lines_edited v w xs ls new ys touched r ends names blocks size far dx dy filled 
     disjoint_trim : {K : Type 0} (us bs cs : List K) → Disjoint us (bs ++ cs) → Disjoint us bs
     disjoint_trim [] bs cs d = tt
     disjoint_trim (a ∷ rest) bs cs d = (misses_left (Some a) bs cs d.0, disjoint_trim rest bs cs d.1)
-
-    disjoint_flip : {K : Type 0} (us bs : List K) → Disjoint us bs → Disjoint bs us
-    disjoint_flip us bs d = disjoint_sym us bs d
 
 -- ---- an edit of the block chain: p becomes q, with the same instructions
 

@@ -1,9 +1,11 @@
 -- Edits of one block's instruction chain. Assumes nothing.
 use Rattle.std.proofs.Common.{◌≡◌, ℕ, ◌<◌, ◌⊎◌, List, [], ◌∷◌, ◌++◌, length, Some, None, Option, sym, refl, ap, ◌∙◌, subst, inl, inr, append-nil}
+use Rattle.std.proofs.lemmas.Option.{none-some, same_Some}
+use Rattle.std.proofs.lemmas.List.{map-append}
 use Rattle.std.proofs.lemmas.Bool.{cases_eq}
 use Rattle.chain.proofs.Chained.{frame}
 use Rattle.chain.proofs.Edits.{length-alter, read_here, read_kept, read_other}
-use Rattle.chain.proofs.Keys.{disjoint_head, distinct_across, distinct_right, head_not, last_not, misses_both, misses_left, misses_right, none_misses, none_some, some_inj, within_right}
+use Rattle.chain.proofs.Keys.{disjoint_head, distinct_across, distinct_right, head_not, last_not, misses_both, misses_left, misses_right, none_misses, within_right}
 use Rattle.chain.proofs.Members.{inserted_away, inserted_keeps, length_inserted, length_removed, map-alter, removed_away, removed_keeps}
 use Rattle.chain.specs.Chain.{AllWithin, Chain, Disjoint, Distinct, Misses, head_or, last_or}
 use Rattle.chain.specs.Table.{alter, inserted_table, read_at, removed_table}
@@ -16,7 +18,7 @@ use Rattle.entities.specs.declared.nodes.BlockNode.{BlockNode}
 use Rattle.entities.specs.declared.nodes.InstNode.{InstNode}
 use Rattle.entities.specs.declared.nodes.Tables.{Tables}
 use Rattle.listing.proofs.BlockEdits.{finish, pair}
-use Rattle.listing.proofs.Found.{block_apart, inst_apart, insts_in-append, locate, map-append}
+use Rattle.listing.proofs.Found.{block_apart, inst_apart, insts_in-append, locate}
 use Rattle.listing.proofs.Frames.{SameBlocks, SameInst, filled_left, filled_right, lines_apart, lines_edited, named_misses}
 use Rattle.listing.specs.Edits.{Edited, InstIn, after_insts, with_block, with_inst_ends}
 use Rattle.listing.specs.Lawful.{BareInst, Filled, Held, Represents, Wired, listed}
@@ -133,7 +135,7 @@ module _ (t is : List InstNode) (p n : Option Inst) (k : Inst) (o : Option Block
   elsewhere ia ib ep en i m =
       let ma = misses_left (Some i) ia (k ∷ ib) m in
       let mk = misses_right (Some i) ia (k ∷ ib) m in
-      let hp : p ≡ Some i → ⊥ = λ q. last_not i None ia (none_some i) ma (sym ep ∙ q) in
+      let hp : p ≡ Some i → ⊥ = λ q. last_not i None ia (none-some i) ma (sym ep ∙ q) in
       let hn : n ≡ Some i → ⊥ = λ q. head_not i ib mk.1 (sym en ∙ q) in
       let hk : Some k ≡ Some i → ⊥ = λ q. mk.0 (sym q) in
       record {
@@ -229,7 +231,7 @@ module _ (t u : Tables) (xs : List Line) (l : Line) (ys : List Line) (sa : List 
       (λ i m. elim (cases_eq i.0 k.0) [
         | inl q ↦ inl (subst (λ x. BareInst js x) (sym (inst_apart i k q)) bare)
         | inr ne ↦
-            let m0 : Misses (Some i) touched = subst (λ ks. Misses (Some i) ks) (sym old) (misses_put i k ia ib (λ q. ne (ap inst_place (some_inj i k q))) (subst (λ ks. Misses (Some i) ks) parts m)) in
+            let m0 : Misses (Some i) touched = subst (λ ks. Misses (Some i) ks) (sym old) (misses_put i k ia ib (λ q. ne (ap inst_place (same_Some i k q))) (subst (λ ks. Misses (Some i) ks) parts m)) in
             inr (m0, m0)
       ]) in
       subst (λ q. Edited t q (xs ++ (l' ∷ ys))) (sym made)

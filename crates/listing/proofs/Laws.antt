@@ -1,5 +1,6 @@
 -- What each edit does to the walk through the whole program. Assumes nothing.
 use Rattle.std.proofs.Common.{◌≡◌, ℕ, true, List, [], ◌∷◌, ◌++◌, map, Some, sym, refl, ap, ◌∙◌, subst, append_assoc, arith}
+use Rattle.std.proofs.lemmas.List.{map-append}
 use lib.Seq.{append_snoc}
 use Rattle.chain.proofs.Keys.{misses_both, misses_left, misses_right}
 use Rattle.chain.specs.Chain.{Misses}
@@ -15,7 +16,7 @@ use Rattle.entities.specs.declared.nodes.Tables.{Tables}
 use Rattle.entities.specs.declared.progpoint.ProgramPoint.{ProgramPoint}
 use Rattle.entities.specs.declared.progpoint.ProgramPoint.TheVariants.{Inst as inst_point, Block as block_point}
 use Rattle.listing.proofs.BlockEdits.{At, none_behind}
-use Rattle.listing.proofs.Found.{block_instead, in_block_at, inst_apart, instead_where_at, instead_where_none, insts_in-append, map-append, no_line_with, other_insts, this_inst}
+use Rattle.listing.proofs.Found.{block_instead, in_block_at, inst_apart, instead_where_at, instead_where_none, insts_in-append, no_line_with, other_insts, this_inst}
 use Rattle.listing.proofs.InstEdits.{InstAt, insts_cut, other_ahead}
 use Rattle.listing.proofs.Numbered.{numbered_insts}
 use Rattle.listing.proofs.Questions.{of_block_at}

@@ -1,8 +1,9 @@
 -- The loop that names a block in each instruction of a chain. Assumes nothing.
 use Rattle.std.proofs.Common.{◌≡◌, ℕ, ◌+◌, ◌-◌, ◌<◌, ◌≤◌, List, [], ◌∷◌, length, get_or, Some, None, Option, sym, refl, ap, ◌∙◌, subst, arith}
+use Rattle.std.proofs.lemmas.Option.{none-some, same_Some}
 use Rattle.chain.proofs.Chained.{frame}
 use Rattle.chain.proofs.Edits.{length-alter, read_here, read_kept, read_other}
-use Rattle.chain.proofs.Keys.{none_misses, none_some, some_inj}
+use Rattle.chain.proofs.Keys.{none_misses}
 use Rattle.chain.proofs.Walks.{chain_keys, walk_few, walk_next}
 use Rattle.chain.specs.Chain.{AllWithin, Chain, Distinct, Linked, Misses, head_or, keys_from, walk}
 use Rattle.chain.specs.Table.{alter, read_at}
@@ -48,11 +49,11 @@ count {t} {at} {b} {goal} g =
     ap length (ap (λ o. walk nxt (length t) o) g.here ∙ ap (λ n. walk nxt n (head_or ks None)) sum ∙ walk_next prv nxt g.before ks (length t - length ks) g.linked)
 
 turn_by : (t : List InstNode) (b : Block) (goal : List InstNode) (i : Inst) (before : Option Inst) (keys : List Inst) → Some i ≡ head_or keys None → Linked (λ k. read_at inst_links.prev_of t (inst_place k)) (λ k. read_at inst_links.next_of t (inst_place k)) before keys None → AllWithin inst_place (length t) keys → named t keys b ≡ goal → length keys ≤ length t → Turn t i b goal (length keys)
-turn_by t b goal i before [] h l w e r = absurd (none_some i (sym h))
+turn_by t b goal i before [] h l w e r = absurd (none-some i (sym h))
 turn_by t b goal i before (x ∷ xs) h l w e r =
     let f : InstNode → InstNode = λ n. with_block n (Some b) in
     let same : length (alter t x.0 f) ≡ length t = length-alter f t x.0 in
-    subst (λ q. Turn t q b goal (length (x ∷ xs))) (some_inj x i (sym h)) (record {
+    subst (λ q. Turn t q b goal (length (x ∷ xs))) (same_Some x i (sym h)) (record {
       in_table = w.0;
       rest = record {
         before = Some x;
@@ -68,13 +69,6 @@ turn_by t b goal i before (x ∷ xs) h l w e r =
 
 pub going_turn : {t : List InstNode} {at : Option Inst} {b : Block} {goal : List InstNode} {i : Inst} → at ≡ Some i → (g : Going t at b goal) → Turn t i b goal (length g.keys)
 going_turn {t} {at} {b} {goal} {i} e a = turn_by t b goal i a.before a.keys (sym e ∙ a.here) a.linked a.within a.todo a.few
-
-end_by : (t : List InstNode) (b : Block) (goal : List InstNode) (keys : List Inst) → None ≡ head_or keys None → named t keys b ≡ goal → t ≡ goal
-end_by t b goal [] h e = e
-end_by t b goal (x ∷ xs) h e = absurd (none_some x h)
-
-pub going_end : {t : List InstNode} {at : Option Inst} {b : Block} {goal : List InstNode} → at ≡ None → Going t at b goal → t ≡ goal
-going_end {t} {at} {b} {goal} e a = end_by t b goal a.keys (sym e ∙ a.here) a.todo
 
 pub turned : {t u : List InstNode} {i : Inst} {b : Block} {goal : List InstNode} {o : Option Inst} {left : ℕ} → (r : Turn t i b goal left) → u ≡ alter t i.0 (λ n. with_block n (Some b)) → o ≡ read_at inst_links.next_of t i.0 → (g : Going u o b goal) × (length g.keys < left)
 turned {t} {u} {i} {b} {goal} {o} {left} r a e = subst (λ q. (g : Going q o b goal) × (length g.keys < left)) (sym a) (subst (λ q. (g : Going (alter t i.0 (λ n. with_block n (Some b))) q b goal) × (length g.keys < left)) (sym e) (r.rest, r.less))

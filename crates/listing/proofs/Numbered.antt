@@ -1,5 +1,6 @@
 -- What numbering an instruction keeps, whatever the slots of its block. Assumes nothing.
 use Rattle.std.proofs.Common.{◌≡◌, ℕ, ◌+◌, ◌-◌, ◌*◌, ◌/◌, ◌^◌, ◌<◌, ◌≤◌, Bool, true, false, cond, ltb, List, [], ◌∷◌, ◌++◌, length, Some, None, refl, ap, ◌∙◌, arith, length-append}
+use Rattle.std.proofs.lemmas.List.{length-map}
 use Rattle.std.proofs.lemmas.Bool.{ltb-true, ltb-false, true≢false}
 use Rattle.entities.specs.Numbering.{Local, Numbered, alone, anew, crowded, last_number, local, local_write, numbered, numbered_at_end, numbered_between, numbered_from, seq_ceiling, settled, tens}
 use Rattle.entities.specs.Program.{Slot, insts_in, slot}
@@ -8,10 +9,6 @@ use Rattle.listing.proofs.InstEdits.{insts_cut}
 use Rattle.listing.specs.Lawful.{Fitting, Rising}
 
 -- ---- slots cut in two
-
-insts_length : (xs : List Slot) → length (insts_in xs) ≡ length xs
-insts_length [] = refl
-insts_length (s ∷ xs) = omega (arith, insts_length xs)
 
 pub rising_front : (q : ℕ) (xs ys : List Slot) → Rising q (xs ++ ys) → Rising q xs
 rising_front q [] ys h = tt
@@ -39,7 +36,7 @@ fit_join (s ∷ xs) ys h k = (h.0, fit_join xs ys h.1 k)
 
 -- ---- the whole block anew
 
-insts_tens : (n : ℕ) (is : List Inst) → insts_in (tens n is) ≡ is
+pub insts_tens : (n : ℕ) (is : List Inst) → insts_in (tens n is) ≡ is
 insts_tens n [] = refl
 insts_tens n (i ∷ is) = ap (λ js. i ∷ js) (insts_tens (n + 10) is)
 
@@ -92,7 +89,7 @@ module _ (sa : List Slot) (i : Inst) (sb : List Slot) where
   }
 
   anew_length : length (insts_in sa ++ (i ∷ insts_in sb)) ≡ 1 + length (sa ++ sb)
-  anew_length = omega (arith, length-append (insts_in sa) (i ∷ insts_in sb), length-append sa sb, insts_length sa, insts_length sb)
+  anew_length = omega (arith, length-append (insts_in sa) (i ∷ insts_in sb), length-append sa sb, length-map sa (λ (s : Slot). s.inst), length-map sb (λ (s : Slot). s.inst))
 
   -- the whole block, whatever was stored before
   anew_kept : (r : ℕ) → Kept sa i sb (record { slots = (anew sa i sb).slots; writes = r })

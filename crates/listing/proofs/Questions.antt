@@ -1,7 +1,9 @@
 -- What a node says of the list that the tables stand for, at any number. Assumes nothing.
 use Rattle.std.proofs.Common.{◌≡◌, ℕ, zero, suc, Bool, true, false, cond, List, [], ◌∷◌, ◌++◌, get_or, is_some, Some, None, Option, sym, refl, ap, ◌∙◌, subst, inl, inr, arith}
+use Rattle.std.proofs.lemmas.Option.{none-some}
+use Rattle.std.proofs.lemmas.List.{map-append}
 use Rattle.std.proofs.lemmas.Bool.{eq-eqb, ne_eqb}
-use Rattle.chain.proofs.Keys.{head_not, last_not, misses_left, misses_right, none_some}
+use Rattle.chain.proofs.Keys.{head_not, last_not, misses_left, misses_right}
 use Rattle.chain.proofs.Members.{not_in}
 use Rattle.chain.specs.Chain.{Distinct, Misses, head_or, last_or}
 use Rattle.chain.specs.Table.{read_at}
@@ -16,7 +18,7 @@ use Rattle.entities.specs.declared.nodes.BlockNode.{BlockNode}
 use Rattle.entities.specs.declared.nodes.InstNode.{InstNode}
 use Rattle.entities.specs.declared.nodes.Tables.{Tables}
 use Rattle.listing.proofs.BlockEdits.{At, block_at, next_is, prev_is}
-use Rattle.listing.proofs.Found.{Located, block_apart, inst_apart, locate, map-append}
+use Rattle.listing.proofs.Found.{Located, block_apart, inst_apart, locate}
 use Rattle.listing.proofs.Frames.{filled_right}
 use Rattle.listing.proofs.InstEdits.{InstAt, held_right, inst_at, insts_cut, stand, standing_in, this_line}
 use Rattle.listing.proofs.Props.{sound_out}
@@ -230,7 +232,7 @@ some_is a b e = cc
 
 -- the number of a node that is in the table
 number_read : (t : List InstNode) (i m : ℕ) → read_at number_of t i ≡ Some m → (get_or t i no_inst).seq ≡ m
-number_read [] i m e = absurd (none_some m e)
+number_read [] i m e = absurd (none-some m e)
 number_read (n ∷ ns) zero m e = some_is n.seq m e
 number_read (n ∷ ns) (suc i) m e = number_read ns i m e
 

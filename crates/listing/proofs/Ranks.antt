@@ -1,9 +1,9 @@
 -- Numbers and the walk of a block rank two points alike. Assumes nothing.
-use Rattle.std.proofs.Common.{◌≡◌, ℕ, ◌<◌, true, cond, eqb, ◌⊎◌, List, [], ◌∷◌, ◌++◌, map, is_some, Some, sym, refl, ap, ◌∙◌, subst, inl, inr, arith, nat_cmp, Ordering, Less, Equal, Greater}
-use Rattle.std.proofs.lemmas.Bool.{lt-ltb}
-use Rattle.std.proofs.lemmas.Bool.Decides.{nat_tests}
+use Rattle.std.proofs.Common.{◌≡◌, ℕ, ◌<◌, true, ◌⊎◌, List, [], ◌∷◌, ◌++◌, map, is_some, Some, sym, refl, ap, ◌∙◌, subst, inl, inr, arith, nat_cmp, Ordering, Less, Equal, Greater}
+use Rattle.std.proofs.lemmas.Option.{none-some, same_Some}
+use Rattle.std.proofs.lemmas.List.{map-append}
+use Rattle.std.specs.Cmp.{nat_cmp_is}
 use Rattle.entities.specs.declared.progpoint.ProgramPoint.TheVariants.{Inst as inst_point, Block as block_point}
-use Rattle.chain.proofs.Keys.{none_some, some_inj}
 use Rattle.chain.specs.Chain.{Misses}
 use Rattle.chain.specs.Table.{read_at}
 use Rattle.entities.specs.Nodes.{block_named, block_place, number_of}
@@ -12,7 +12,7 @@ use Rattle.entities.specs.Reading.{Precedes, Ranked, Stands, block_insts, insert
 use Rattle.entities.specs.declared.Block.{Block}
 use Rattle.entities.specs.declared.nodes.Tables.{Tables}
 use Rattle.entities.specs.declared.progpoint.ProgramPoint.{ProgramPoint}
-use Rattle.listing.proofs.Found.{block_apart, locate, map-append}
+use Rattle.listing.proofs.Found.{block_apart, locate}
 use Rattle.listing.proofs.Frames.{filled_right}
 use Rattle.listing.proofs.InstEdits.{inst_at, insts_cut, other_ahead}
 use Rattle.listing.proofs.Props.{sound_out}
@@ -72,26 +72,15 @@ two xs (u ∷ us) a vs (w ∷ ws) c zs e h =
       ]
     ]
 
--- ---- numbers, nat_cmp
-
-compared_less : (m n : ℕ) → m < n → nat_cmp m n ≡ Less
-compared_less m n h = ap (λ c. cond c Less (cond (eqb m n) Equal Greater)) (lt-ltb m n h)
-
-compared_equal : (m n : ℕ) → m ≡ n → nat_cmp m n ≡ Equal
-compared_equal m n e = grind (arith, nat_tests)
-
-compared_greater : (m n : ℕ) → n < m → nat_cmp m n ≡ Greater
-compared_greater m n h = grind (arith, nat_tests)
-
 -- a list that climbs behind its first ranks by number as by place
 module _ {A : Type 0} (f : A → ℕ) (x : A) (xs : List A) (up : Climbs f (f x) xs) where
   ahead_less : (a c : A) → Precedes a c (x ∷ xs) → f a < f c
   ahead_less a c p = up_ahead f x xs p.ahead a p.between c p.behind up p.is
 
   stood : (o : Ordering) (a c : A) → Stands o a c (x ∷ xs) → nat_cmp (f a) (f c) ≡ o
-  stood Less a c s = compared_less (f a) (f c) (ahead_less a c s)
-  stood Equal a c s = compared_equal (f a) (f c) (ap f s)
-  stood Greater a c s = compared_greater (f a) (f c) (ahead_less c a s)
+  stood Less a c s = sym (nat_cmp_is (f a) (f c) Less (ahead_less a c s))
+  stood Equal a c s = sym (nat_cmp_is (f a) (f c) Equal (ap f s))
+  stood Greater a c s = sym (nat_cmp_is (f a) (f c) Greater (ahead_less c a s))
 
   stands_by : (a c : A) → Among a (x ∷ xs) → Among c (x ∷ xs) → Stands (nat_cmp (f a) (f c)) a c (x ∷ xs)
   stands_by a c p q =
@@ -111,7 +100,7 @@ module _ (t : Tables) (law : Lawful t) where
   slot_rank b s named number =
       let r = inst_reads t s.inst law.wired in
       let inserted : inserted_inst s.inst (program_of t) ≡ true = sym r.inserted ∙ ap is_some named in
-      some_inj (inst_seq s.inst (program_of t)) s.seq (sym (r.seq inserted) ∙ number)
+      same_Some (inst_seq s.inst (program_of t)) s.seq (sym (r.seq inserted) ∙ number)
 
   climbing : (b : Block) (n : ℕ) (ss : List Slot) → Held t.insts b ss → Rising n ss → Climbs (λ a. point_seq a (program_of t)) n (map inst_point (insts_in ss))
   climbing b n [] h r = tt
@@ -132,12 +121,12 @@ module _ (t : Tables) (law : Lawful t) where
 
   -- a point of block b stands in its walk
   in_walk : (a : ProgramPoint) (b : Block) → point_block a (program_of t) ≡ Some b → Among a (walk_of b (program_of t))
-  in_walk (block_point c) b e = record { ahead = []; behind = map inst_point (block_insts b (program_of t)); is = ap (λ x. block_point x ∷ map inst_point (block_insts b (program_of t))) (sym (some_inj c b e)) }
+  in_walk (block_point c) b e = record { ahead = []; behind = map inst_point (block_insts b (program_of t)); is = ap (λ x. block_point x ∷ map inst_point (block_insts b (program_of t))) (sym (same_Some c b e)) }
   in_walk (inst_point i) b e =
       let named : read_at block_named t.insts i.0 ≡ Some b = (inst_reads t i law.wired).block ∙ e in
-      let stands : InstIn i t = λ m. none_some b (sym (law.wired.sound.bare_insts i m).block ∙ named) in
+      let stands : InstIn i t = λ m. none-some b (sym (law.wired.sound.bare_insts i m).block ∙ named) in
       let a = inst_at t i law.wired stands in
-      let here : a.it.block ≡ b = some_inj a.it.block b (sym a.named ∙ named) in
+      let here : a.it.block ≡ b = same_Some a.it.block b (sym a.named ∙ named) in
       let slots : slots_of b (program_of t) ≡ a.it.slots = ap (of_block b (λ l. l.slots) []) a.is ∙ of_block_at b (λ l. l.slots) [] a.ahead a.it a.behind (subst (λ x. Misses (Some x) (blocks_of a.ahead)) here (other_ahead t a.ahead a.it a.behind a.rep)) here in
       let parts : block_insts b (program_of t) ≡ insts_in a.sa ++ (i ∷ insts_in a.sb) = ap insts_in (slots ∙ a.cut) ∙ insts_cut a.sa (a.slot ∷ a.sb) ∙ ap (λ x. insts_in a.sa ++ (x ∷ insts_in a.sb)) a.here in
       record {

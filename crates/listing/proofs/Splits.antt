@@ -1,7 +1,9 @@
 -- A line's tail moved into the empty line behind it. Assumes nothing.
 use Rattle.std.proofs.Common.{◌≡◌, ◌<◌, true, List, [], ◌∷◌, ◌++◌, length, Some, None, Option, sym, refl, ap, ◌∙◌, subst, inr, append-nil, arith}
+use Rattle.std.proofs.lemmas.Option.{none-some}
+use Rattle.std.proofs.lemmas.List.{map-append}
 use Rattle.chain.proofs.Edits.{cuts, length-alter}
-use Rattle.chain.proofs.Keys.{disjoint_nil, distinct_across, distinct_right, last_not, misses_left, misses_right, none_some, within_right}
+use Rattle.chain.proofs.Keys.{disjoint_nil, distinct_across, distinct_right, last_not, misses_left, misses_right, within_right}
 use Rattle.chain.proofs.Members.{cut_away, cut_keeps, length_cut, map-alter}
 use Rattle.chain.proofs.Walks.{chain_keys}
 use Rattle.chain.specs.Chain.{AllWithin, Chain, Cuts, Disjoint, Distinct, Misses, head_or, keys_from, last_or}
@@ -17,7 +19,7 @@ use Rattle.entities.specs.declared.nodes.BlockNode.{BlockNode}
 use Rattle.entities.specs.declared.nodes.InstNode.{InstNode}
 use Rattle.entities.specs.declared.nodes.Tables.{Tables}
 use Rattle.listing.proofs.BlockEdits.{finish, here_within, prev_is, prev_within}
-use Rattle.listing.proofs.Found.{block_apart, block_instead, inst_apart, map-append}
+use Rattle.listing.proofs.Found.{block_apart, block_instead, inst_apart}
 use Rattle.listing.proofs.Frames.{SameBlocks, SameInst, filled_left, filled_right, lines_apart, lines_edited}
 use Rattle.listing.proofs.InstEdits.{ends_here, ends_set, held_left, held_right, insts_cut, other_ahead, other_behind}
 use Rattle.listing.proofs.Naming.{length_named, named_away, named_chain, named_held}
@@ -104,7 +106,7 @@ module _ (t u : Tables) (xs : List Line) (l : Line) (b : Block) (ys : List Line)
       let m0 = subst (λ ks. Misses (Some i) ks) flat m in
       let ma = misses_left (Some i) ia (k ∷ ib) m0 in
       let mk : Misses (Some i) (k ∷ ib) = misses_right (Some i) ia (k ∷ ib) m0 in
-      let hp : p ≡ Some i → ⊥ = λ q. last_not i None ia (none_some i) ma (sym ep ∙ q) in
+      let hp : p ≡ Some i → ⊥ = λ q. last_not i None ia (none-some i) ma (sym ep ∙ q) in
       let hk : Some k ≡ Some i → ⊥ = λ q. mk.0 (sym q) in
       record {
         block = named_away block_named is (k ∷ ib) b i mk ∙ ap (λ q. read_at block_named q i.0) table ∙ cut_away inst_apart inst_links block_named t.insts p k i hp hk;
@@ -192,7 +194,6 @@ module _ (t : Tables) (nb b : Block) (i : Inst) (h : Sound t) (stands : inst_blo
     pub old_low : b.0 < length t1.blocks
     old_low = subst (λ (x : Block). x.0 < length t1.blocks) opened.block lows.0
 
-    -- also once the ends of b are written
     pub cut_low : i.0 < length t1.insts
     cut_low = here_within inst_place inst_links t1.insts (ends_of t1.blocks b) (insts_in opened.sa) i (insts_in opened.sb) opened.chain
 

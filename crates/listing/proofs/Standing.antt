@@ -1,6 +1,7 @@
 -- Where an inserted instruction stands, and what the words for edits make there. Assumes nothing.
 use Rattle.std.proofs.Common.{◌≡◌, true, List, [], ◌∷◌, ◌++◌, Some, None, sym, refl, ap, ◌∙◌, subst, inl, inr}
-use Rattle.chain.proofs.Keys.{misses_right, none_some, some_inj}
+use Rattle.std.proofs.lemmas.Option.{none-some, same_Some}
+use Rattle.chain.proofs.Keys.{misses_right}
 use Rattle.chain.specs.Chain.{Misses}
 use Rattle.entities.specs.Lists.{ahead_of, from_on}
 use Rattle.entities.specs.Nodes.{inst_place}
@@ -25,11 +26,11 @@ pub record StandsIn (t : Tables) (i : Inst) (b : Block) : Type 0 where
 pub stands_in : (t : Tables) (i : Inst) (b : Block) → Wired t → inst_block i (program_of t) ≡ Some b → StandsIn t i b
 stands_in t i b law e =
     elim (stand i (listed t)) [
-      | inl m ↦ absurd (none_some b (sym (of_inst_none i (λ l. Some l.block) None (listed t) m) ∙ e))
+      | inl m ↦ absurd (none-some b (sym (of_inst_none i (λ l. Some l.block) None (listed t) m) ∙ e))
       | inr g ↦
           let h : InstIn i t = λ m. standing_in i (listed t) g m in
           let a = inst_at t i law h in
-          record { inserted = h; at = a; block = some_inj a.it.block b (sym a.named ∙ (inst_reads t i law).block ∙ e) }
+          record { inserted = h; at = a; block = same_Some a.it.block b (sym a.named ∙ (inst_reads t i law).block ∙ e) }
     ]
 
 module _ (t : Tables) (i : Inst) (a : InstAt t i) where

@@ -1,7 +1,8 @@
 -- Where a key stands in a list: what the words for its neighbours, for a walk on from it, and for a part between two ends say there. Assumes nothing.
 use Rattle.std.proofs.Common.{◌≡◌, ℕ, true, false, cond, eqb, List, [], ◌∷◌, ◌++◌, Some, None, Option, sym, refl, ap, ◌∙◌, inl, inr, append_assoc}
+use Rattle.std.proofs.lemmas.Option.{none-some, same_Some}
 use Rattle.std.proofs.lemmas.Bool.{cases_eq, cases_Bool, eq-eqb, ne_eqb, true≢false, false≢true, both_ways}
-use Rattle.chain.proofs.Keys.{disjoint_head, distinct_across, distinct_right, head_or-append, last_or-append, misses_right, none_some, some_inj}
+use Rattle.chain.proofs.Keys.{disjoint_head, distinct_across, distinct_right, head_or-append, last_or-append, misses_right}
 use Rattle.chain.specs.Chain.{Distinct, Misses, head_or, last_or}
 use Rattle.entities.specs.Lists.{ahead, ahead_from, behind, from_key, holds, spans, stretch, upto_key, walks_on}
 
@@ -50,7 +51,7 @@ module _ {K : Type 0} (place : K → ℕ) (apart : (a b : K) → place a ≡ pla
   not_holds k (x ∷ xs) h =
       elim (cases_eq (place x) (place k)) [
         | inl e ↦ absurd (true≢false (rw (eq-eqb (place x) (place k) e) at h))
-        | inr n ↦ (λ q. n (ap place (sym (some_inj k x q))), not_holds k xs (rw (ne_eqb (place x) (place k) n) at h))
+        | inr n ↦ (λ q. n (ap place (sym (same_Some k x q))), not_holds k xs (rw (ne_eqb (place x) (place k) n) at h))
       ]
 
   pub holds_in : (k : K) (xs : List K) → (Misses (Some k) xs → ⊥) → holds place k xs ≡ true
@@ -76,7 +77,7 @@ module _ {K : Type 0} (place : K → ℕ) (apart : (a b : K) → place a ≡ pla
   stands k (x ∷ xs) h =
       elim (cases_eq (place x) (place k)) [
         | inl e ↦ rw (apart x k e) (at [] xs tt)
-        | inr n ↦ later k x (λ q. n (ap place (sym (some_inj k x q)))) (stands k xs (rw (ne_eqb (place x) (place k) n) at h))
+        | inr n ↦ later k x (λ q. n (ap place (sym (same_Some k x q)))) (stands k xs (rw (ne_eqb (place x) (place k) n) at h))
       ]
 
   -- what is read at the first place where k stands
@@ -174,16 +175,16 @@ module _ {K : Type 0} (place : K → ℕ) (apart : (a b : K) → place a ≡ pla
 
   -- both ends are keys of the list
   pub spans_first : (h t : Option K) (xs : List K) (k : K) → spans place h t xs ≡ true → h ≡ Some k → holds place k xs ≡ true
-  spans_first None t xs k s e = absurd (none_some k e)
+  spans_first None t xs k s e = absurd (none-some k e)
   spans_first (Some h) None xs k s e = absurd (false≢true s)
-  spans_first (Some h) (Some t) xs k s e = rw (← some_inj h k e) (from_in h t xs s)
+  spans_first (Some h) (Some t) xs k s e = rw (← same_Some h k e) (from_in h t xs s)
 
   pub spans_last : (h t : Option K) (xs : List K) (k : K) → spans place h t xs ≡ true → t ≡ Some k → holds place k xs ≡ true
   spans_last h t xs k s e = final (part h t xs s) e
     where
       final : {o p : Option K} {us : List K} → Part o p us → p ≡ Some k → holds place k us ≡ true
-      final (empty us) q = absurd (none_some k q)
-      final (upto ws us b ys) q = rw (← some_inj b k q) (rw append_assoc at (holds_at (ws ++ us) b ys))
+      final (empty us) q = absurd (none-some k q)
+      final (upto ws us b ys) q = rw (← same_Some b k q) (rw append_assoc at (holds_at (ws ++ us) b ys))
 
   pub span_start : (xs : List K) → Distinct xs → (spans place (head_or xs None) (last_or None xs) xs ≡ true) × (stretch place (head_or xs None) (last_or None xs) xs ≡ xs)
   span_start xs d = let c = start (tip_of xs) d in (c.1, c.0)
@@ -191,16 +192,6 @@ module _ {K : Type 0} (place : K → ℕ) (apart : (a b : K) → place a ≡ pla
       start : {us : List K} → Tip us → Distinct us → Covers (head_or us None) (last_or None us) us us
       start none e = (refl, refl)
       start (tip us k) e = rw (head_or-append us (k ∷ []) None, last_or-append None us (k ∷ [])) (covers [] us k [] e)
-
-  pub span_none_front : (h t : Option K) (xs : List K) → spans place h t xs ≡ true → h ≡ None → (stretch place h t xs ≡ []) × (t ≡ None)
-  span_none_front None None xs s e = (refl, refl)
-  span_none_front None (Some t) xs s e = absurd (false≢true s)
-  span_none_front (Some h) t xs s e = absurd (none_some h (sym e))
-
-  pub span_none_back : (h t : Option K) (xs : List K) → spans place h t xs ≡ true → t ≡ None → (stretch place h t xs ≡ []) × (h ≡ None)
-  span_none_back None None xs s e = (refl, refl)
-  span_none_back (Some h) None xs s e = absurd (false≢true s)
-  span_none_back h (Some t) xs s e = absurd (none_some t (sym e))
 
   pub span_one : (h t : Option K) (xs : List K) (k : K) → Distinct xs → spans place h t xs ≡ true → h ≡ Some k → h ≡ t → stretch place h t xs ≡ k ∷ []
   span_one h t xs k d s e q = rw (← q, e) (one (stands k xs (spans_first h t xs k s e)))
@@ -216,7 +207,7 @@ module _ {K : Type 0} (place : K → ℕ) (apart : (a b : K) → place a ≡ pla
       front (upto ws [] b ys) m q two = absurd (two refl)
       front (upto ws (x ∷ us) b ys) m q two =
           let c : Covers (head_or us (Some b)) (Some b) (us ++ (b ∷ [])) (ws ++ (x ∷ (us ++ (b ∷ ys)))) = rw append_assoc at (covers (ws ++ (x ∷ [])) us b ys (rw append_assoc m)) in
-          rw (← some_inj x k q, behind_at ws x (us ++ (b ∷ ys)) m, head_or-append us (b ∷ ys) None) ((covers ws (x ∷ us) b ys m).0 ∙ ap (λ r. x ∷ r) (sym c.0), c.1)
+          rw (← same_Some x k q, behind_at ws x (us ++ (b ∷ ys)) m, head_or-append us (b ∷ ys) None) ((covers ws (x ∷ us) b ys m).0 ∙ ap (λ r. x ∷ r) (sym c.0), c.1)
 
   pub span_back : (h t : Option K) (xs : List K) (k : K) → Distinct xs → spans place h t xs ≡ true → t ≡ Some k → (h ≡ t → ⊥) → (stretch place h t xs ≡ stretch place h (ahead place k xs) xs ++ (k ∷ [])) × (spans place h (ahead place k xs) xs ≡ true) × (holds place k xs ≡ true)
   span_back h t xs k d s e ne = let b = back (part h t xs s) d e ne in (b.0, b.1, spans_last h t xs k s e)
@@ -229,4 +220,4 @@ module _ {K : Type 0} (place : K → ℕ) (apart : (a b : K) → place a ≡ pla
 
       back : {o p : Option K} {us : List K} → Part o p us → Distinct us → p ≡ Some k → (o ≡ p → ⊥) → (stretch place o p us ≡ stretch place o (ahead place k us) us ++ (k ∷ [])) × (spans place o (ahead place k us) us ≡ true)
       back (empty us) m q two = absurd (two refl)
-      back (upto ws us b ys) m q two = let c = cut (tip_of us) ws b ys m two in rw (← some_inj b k q) ((covers ws us b ys m).0 ∙ ap (λ r. r ++ (b ∷ [])) (sym c.0), c.1)
+      back (upto ws us b ys) m q two = let c = cut (tip_of us) ws b ys m two in rw (← same_Some b k q) ((covers ws us b ys m).0 ∙ ap (λ r. r ++ (b ∷ [])) (sym c.0), c.1)

@@ -50,9 +50,6 @@ with_inst_ends n e = record { prev = n.prev; next = n.next; first_inst = e.first
 abbrev pub with_block : InstNode → Option Block → InstNode
 with_block n b = record { block = b; prev = n.prev; next = n.next; seq = n.seq }
 
-abbrev pub with_seq : InstNode → ℕ → InstNode
-with_seq n s = record { block = n.block; prev = n.prev; next = n.next; seq = s }
-
 -- the tables once the block chain is edited
 abbrev pub after_blocks : Tables → List BlockNode → Ends Block → Tables
 after_blocks t bs e = record { blocks = bs; insts = t.insts; ends = e }

@@ -1,9 +1,10 @@
 -- What was stored is what the rule says, by the numbers of the neighbours. Assumes nothing.
 use Rattle.std.proofs.Common.{◌≡◌, ℕ, ◌+◌, ◌<◌, ◌≤◌, Bool, true, false, ltb, List, [], ◌∷◌, ◌++◌, length, Some, None, Option, Ok, Err, Result, sym, refl, ap, ◌∙◌, subst, arith}
+use Rattle.std.proofs.lemmas.Option.{none-some, same_Some}
 use Rattle.std.specs.Prelude.{MatchOption}
 use Rattle.std.proofs.lemmas.Bool.{le-ltb, lt-ltb}
 use Rattle.chain.proofs.Chained.{frame, split_right}
-use Rattle.chain.proofs.Keys.{distinct_across, last_within, none_misses, none_some, some_inj, within_left}
+use Rattle.chain.proofs.Keys.{distinct_across, last_within, none_misses, within_left, head_within}
 use Rattle.chain.specs.Chain.{AllWithin, Disjoint, head_or, last_or}
 use Rattle.chain.specs.Table.{Within, read_at}
 use Rattle.entities.specs.Nodes.{inst_links, inst_place}
@@ -12,14 +13,14 @@ use Rattle.entities.specs.Program.{Slot, insts_in, slot}
 use Rattle.entities.specs.declared.Inst.{Inst}
 use Rattle.entities.specs.declared.nodes.InstNode.{InstNode}
 use Rattle.listing.proofs.InstEdits.{insts_cut}
-use Rattle.listing.proofs.Numbered.{local_insts}
+use Rattle.listing.proofs.Numbered.{local_insts, insts_tens}
 use Rattle.listing.specs.Lawful.{or_zero}
 use Rattle.listing.specs.Numbers.{BelowFirst, Placed, Renumbered, Run, SomePlaced, Written}
 use Rattle.numbering.specs.Assigned.{AllAnew, AloneBetween, AloneLast, AnewAbove, Middle, Stored, number_at, number_if, seq_ahead_of, seq_behind_of, with_number}
 use Rattle.numbering.specs.Local.{Crowded, Followed, LocallyAnew, StoredLocally, local_end}
 use Rattle.numbering.specs.declared.PastLimit.{PastLimit}
 use Rattle.numbering.proofs.Pushes.{followed_then}
-use Rattle.numbering.proofs.Renumbering.{again, both, insts_tens, put, unchanged}
+use Rattle.numbering.proofs.Renumbering.{again, both, put, unchanged}
 use Rattle.numbering.proofs.Tails.{few, tail_from}
 
 -- ---- the numbers of the neighbours
@@ -38,10 +39,6 @@ unfolding head_number
 head_is t [] w = refl
 head_is t (s ∷ ss) w = ap (λ n. Some (or_zero n)) w.0
 
-head_within : (n : ℕ) (ks : List Inst) → AllWithin inst_place n ks → Within inst_place n (head_or ks None)
-head_within n [] w = tt
-head_within n (k ∷ ks) w = w.0
-
 module _ {t : List InstNode} {first : Option Inst} (sa : List Slot) (i : Inst) (sb : List Slot) (p : Placed t first sa i sb) where
   pub followed : Followed t i sb
   followed = record { tail = tail_from (insts_in sa) i (insts_in sb) p.run; written = p.behind }
@@ -56,7 +53,7 @@ module _ {t : List InstNode} {first : Option Inst} (sa : List Slot) (i : Inst) (
   prev_in_table = subst (λ o. Within inst_place (length t) o) (sym prev_is) (last_within inst_place (length t) (insts_in sa) (within_left inst_place (length t) (insts_in sa) (i ∷ insts_in sb) p.run.chain.within))
 
   pub next_in_table : Within inst_place (length t) (read_at inst_links.next_of t i.0)
-  next_in_table = subst (λ o. Within inst_place (length t) o) (sym followed.tail.linked.1) (head_within (length t) (insts_in sb) followed.tail.within.1)
+  next_in_table = subst (λ o. Within inst_place (length t) o) (sym followed.tail.linked.1) (head_within inst_place (length t) (insts_in sb) followed.tail.within.1)
 
   ahead_is : seq_ahead_of t i ≡ last_number 0 sa
   ahead_is = ap (λ o. number_at t o) prev_is ∙ last_is t None sa p.ahead
@@ -70,8 +67,8 @@ module _ {t : List InstNode} {first : Option Inst} (sa : List Slot) (i : Inst) (
   rises_between n e = subst (λ q. q < n) (sym ahead_is) (by sb (sym behind_is ∙ e) p.between)
     where
       by : (ss : List Slot) → head_number ss ≡ Some n → BelowFirst (last_number 0 sa) ss → last_number 0 sa < n
-      by [] e r = absurd (none_some n e)
-      by (s ∷ ss) e r = subst (λ q. last_number 0 sa < q) (some_inj s.seq n e) r
+      by [] e r = absurd (none-some n e)
+      by (s ∷ ss) e r = subst (λ q. last_number 0 sa < q) (same_Some s.seq n e) r
 
   -- the midpoint of the numbers ahead and behind
   middle_is : (o : Option ℕ) → Middle t i o → MatchOption (head_number sb) (o ≡ None) (λ n. o ≡ midpoint (last_number 0 sa) n)
@@ -88,7 +85,7 @@ module _ (sa : List Slot) (i : Inst) where
 
   with_middle : (sb : List Slot) (n : ℕ) (o : Option ℕ) → o ≡ Some n → MatchOption (head_number sb) (o ≡ None) (λ k. o ≡ midpoint q k) → numbered sa i sb ≡ alone sa i n sb
   unfolding head_number
-  with_middle [] n o e m = absurd (none_some n (sym m ∙ e))
+  with_middle [] n o e m = absurd (none-some n (sym m ∙ e))
   with_middle (s ∷ sb) n o e m = ap (λ x. numbered_between x q sa i (s ∷ sb)) (sym m ∙ e)
 
   above : (sb : List Slot) (o : Option ℕ) → o ≡ None → MatchOption (head_number sb) (o ≡ None) (λ k. o ≡ midpoint q k) → seq_ceiling < q → numbered sa i sb ≡ anew sa i sb
@@ -99,13 +96,13 @@ module _ (sa : List Slot) (i : Inst) where
   at_end : (sb : List Slot) → head_number sb ≡ None → q ≤ seq_ceiling → numbered sa i sb ≡ alone sa i (stride q) sb
   unfolding head_number
   at_end [] e h = ap (λ b. numbered_at_end b sa i) (le-ltb seq_ceiling q h)
-  at_end (s ∷ sb) e h = absurd (none_some s.seq (sym e))
+  at_end (s ∷ sb) e h = absurd (none-some s.seq (sym e))
 
   locally : (sb : List Slot) (n : ℕ) (b : Bool) → head_number sb ≡ Some n → midpoint q n ≡ None → q ≤ seq_ceiling → (local (q + 200) (q + 2) sb).passed ≡ b → numbered sa i sb ≡ settled b q sa i sb (local (q + 200) (q + 2) sb)
   unfolding head_number
-  locally [] n b e m h f = absurd (none_some n e)
+  locally [] n b e m h f = absurd (none-some n e)
   locally (s ∷ sb) n b e m h f =
-      ap (λ o. numbered_between o q sa i (s ∷ sb)) (ap (λ k. midpoint q k) (some_inj s.seq n e) ∙ m)
+      ap (λ o. numbered_between o q sa i (s ∷ sb)) (ap (λ k. midpoint q k) (same_Some s.seq n e) ∙ m)
       ∙ ap (λ c. crowded c q sa i (s ∷ sb)) (le-ltb seq_ceiling q h)
       ∙ ap (λ c. settled c q sa i (s ∷ sb) (local (q + 200) (q + 2) (s ∷ sb))) f
 

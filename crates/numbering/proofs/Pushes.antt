@@ -1,6 +1,7 @@
 -- The loop that renumbers locally, turn by turn. Assumes nothing.
 use Rattle.std.proofs.Common.{◌≡◌, ℕ, ◌+◌, ◌<◌, Bool, true, false, ltb, List, [], ◌∷◌, length, get_or, Some, None, Option, Ok, Err, Result, sym, refl, ap, ◌∙◌, subst, arith}
-use Rattle.chain.proofs.Keys.{none_some, some_inj}
+use Rattle.std.proofs.lemmas.List.{length-map}
+use Rattle.std.proofs.lemmas.Option.{none-some, same_Some}
 use Rattle.chain.specs.Chain.{Disjoint, Misses}
 use Rattle.entities.specs.Nodes.{inst_links, no_inst, number_of}
 use Rattle.entities.specs.Numbering.{Local, local, local_write}
@@ -47,9 +48,9 @@ pub record Met (t₀ t : List InstNode) (at : Option Inst) (goal : Local) (limit
   pub push : Pushing t₀ t at goal limit n w total (slot i seq ∷ behind)
 
 met : {t₀ t : List InstNode} {at : Option Inst} {goal : Local} {limit n w total : ℕ} (i : Inst) (ss : List Slot) → at ≡ Some i → Pushing t₀ t at goal limit n w total ss → Met t₀ t at goal limit n w total i
-met i [] e p = absurd (none_some i (sym p.tail.here ∙ e))
+met i [] e p = absurd (none-some i (sym p.tail.here ∙ e))
 met {t₀} {t} {at} {goal} {limit} {n} {w} {total} i (s ∷ ss) e p =
-    let same : s.inst ≡ i = sym (some_inj i s.inst (sym e ∙ p.tail.here)) in
+    let same : s.inst ≡ i = sym (same_Some i s.inst (sym e ∙ p.tail.here)) in
     record { seq = s.seq; behind = ss; push = subst (λ k. Pushing t₀ t at goal limit n w total (slot k s.seq ∷ ss)) same p }
 
 lone : (i : Inst) (ss : List Slot) → Misses (Some i) (insts_in ss) → Disjoint (insts_in ss) (i ∷ [])
@@ -71,7 +72,7 @@ stop {t₀} {t} {at} {goal} {limit} {n} {w} {total} {ss} b e p =
 -- at none: all is done
 finished : {t₀ t : List InstNode} {at : Option Inst} {goal : Local} {limit n w total : ℕ} (ss : List Slot) → at ≡ None → Pushing t₀ t at goal limit n w total ss → Settles t₀ t goal (Ok w)
 finished [] e p = stop false refl p
-finished (s ∷ ss) e p = absurd (none_some s.inst (sym e ∙ p.tail.here))
+finished (s ∷ ss) e p = absurd (none-some s.inst (sym e ∙ p.tail.here))
 
 -- ---- ahead of a write, by what was asked there
 
@@ -155,11 +156,7 @@ module _ {t₀ t : List InstNode} {inst : Inst} {j : ℕ} {at : Option Inst} {li
 
   -- no more numbers than the table has places
   pub unfinished : {i : Inst} {ss : List Slot} → at ≡ Some i → Followed t₀ inst ss → w < 1024
-  unfinished {ss = ss} o f = omega (arith, (standing o f).push.counted, few f.tail, count ss)
-    where
-      count : (ss : List Slot) → length (insts_in ss) ≡ length ss
-      count [] = refl
-      count (s ∷ ss) = omega (arith, count ss)
+  unfinished {ss = ss} o f = omega (arith, (standing o f).push.counted, few f.tail, length-map ss (λ (s : Slot). s.inst))
 
   -- at none
   pub all_done : {ss : List Slot} → at ≡ None → Followed t₀ inst ss → Settles t₀ t (local limit start ss) (Ok w)

@@ -1,11 +1,10 @@
 -- Numbers written into nodes: into one, and into some after others. Assumes nothing.
-use Rattle.std.proofs.Common.{◌≡◌, ℕ, ◌+◌, ◌<◌, List, [], ◌∷◌, ◌++◌, length, get_or, Some, sym, refl, ap, ◌∙◌, subst}
+use Rattle.std.proofs.Common.{◌≡◌, ℕ, ◌<◌, List, [], ◌∷◌, ◌++◌, length, get_or, Some, sym, refl, ap, ◌∙◌, subst}
 use Rattle.chain.proofs.Edits.{length-alter, read_here, read_kept, read_other}
 use Rattle.chain.proofs.Keys.{misses_left, misses_right}
 use Rattle.chain.specs.Chain.{Disjoint, Misses}
 use Rattle.chain.specs.Table.{read_at}
 use Rattle.entities.specs.Nodes.{block_named, inst_links, no_inst, number_of}
-use Rattle.entities.specs.Numbering.{tens}
 use Rattle.entities.specs.Program.{Slot, insts_in, slot}
 use Rattle.entities.specs.declared.Inst.{Inst}
 use Rattle.entities.specs.declared.nodes.InstNode.{InstNode}
@@ -81,7 +80,3 @@ again t u v ss rs e a b = record {
   };
   written = b.written;
 }
-
-pub insts_tens : (n : ℕ) (ks : List Inst) → insts_in (tens n ks) ≡ ks
-insts_tens n [] = refl
-insts_tens n (k ∷ ks) = ap (λ q. k ∷ q) (insts_tens (n + 10) ks)

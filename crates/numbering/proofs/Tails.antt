@@ -1,8 +1,9 @@
 -- The instructions from one on to the end of their block. Assumes nothing.
 use Rattle.std.proofs.Common.{◌≡◌, ◌≤◌, List, [], ◌∷◌, ◌++◌, length, Some, None, Option, sym, refl, ap, ◌∙◌, subst, arith}
+use Rattle.std.proofs.lemmas.Option.{none-some, same_Some}
 use Rattle.chain.proofs.Chained.{frame, split_right}
 use Rattle.chain.proofs.Counting.{no_more}
-use Rattle.chain.proofs.Keys.{distinct_right, none_misses, none_some, some_inj, within_right}
+use Rattle.chain.proofs.Keys.{distinct_right, none_misses, within_right}
 use Rattle.chain.specs.Chain.{AllWithin, head_or}
 use Rattle.chain.specs.Table.{read_at}
 use Rattle.entities.specs.Nodes.{inst_links, inst_place}
@@ -46,5 +47,5 @@ tail_on {i = i} o r = record { before = Some i; here = o ∙ r.linked.1; linked 
 
 -- a link to an instruction: it is the first
 pub headed : (i : Inst) (ks : List Inst) → Some i ≡ head_or ks None → (tail : List Inst) × (ks ≡ i ∷ tail)
-headed i [] e = absurd (none_some i (sym e))
-headed i (k ∷ ks) e = (ks, ap (λ q. q ∷ ks) (sym (some_inj i k e)))
+headed i [] e = absurd (none-some i (sym e))
+headed i (k ∷ ks) e = (ks, ap (λ q. q ∷ ks) (sym (same_Some i k e)))

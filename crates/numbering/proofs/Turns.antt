@@ -1,6 +1,7 @@
 -- The loop that numbers a block anew, turn by turn. Assumes nothing.
 use Rattle.std.proofs.Common.{◌≡◌, ℕ, ◌+◌, ◌*◌, ◌<◌, ◌≤◌, List, [], ◌∷◌, length, get_or, Some, None, Option, sym, ◌∙◌, subst, arith}
-use Rattle.chain.proofs.Keys.{none_some}
+use Rattle.listing.proofs.Numbered.{insts_tens}
+use Rattle.std.proofs.lemmas.Option.{none-some}
 use Rattle.chain.specs.Chain.{Misses}
 use Rattle.entities.specs.Nodes.{inst_links, no_inst}
 use Rattle.entities.specs.Numbering.{tens}
@@ -11,7 +12,7 @@ use Rattle.listing.proofs.Parts.{node_reads}
 use Rattle.listing.specs.Numbers.{Renumbered, Run}
 use Rattle.numbering.specs.Assigned.{AnewFrom, Stored, with_number}
 use Rattle.numbering.specs.Local.{Tail}
-use Rattle.numbering.proofs.Renumbering.{both, insts_tens, put, unchanged}
+use Rattle.numbering.proofs.Renumbering.{both, put, unchanged}
 use Rattle.numbering.proofs.Tails.{few, headed, run_tail, tail_on, tail_stays}
 
 -- `count` of the block's instructions ks₀ are done, and ks are left, to be numbered from `seq` on: whatever table finishes them has the
@@ -47,7 +48,7 @@ turn {t₀} {t} {u} {ks₀} {ks} {at} {start} {seq} {count} {j} {i} e z l =
 -- at none: all is done
 done : {t₀ t : List InstNode} {ks₀ : List Inst} {at : Option Inst} {start seq count : ℕ} (ks : List Inst) → at ≡ None → Left t₀ t ks₀ ks at start seq count → Stored t₀ t (record { slots = tens start ks₀; writes = length ks₀ }) count
 done {t₀} {t} [] e l = record { table = l.whole t (unchanged t [] tt); count = omega (arith, l.counted) }
-done (k ∷ ks) e l = absurd (none_some k (sym e ∙ l.tail.here))
+done (k ∷ ks) e l = absurd (none-some k (sym e ∙ l.tail.here))
 
 -- ---- the loop, whatever instructions the block has
 

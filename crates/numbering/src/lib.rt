@@ -25,8 +25,8 @@ const MINOR_STRIDE: SequenceNumber = 2;
 /// How far above the number ahead a local renumbering goes on; past that, the whole block is renumbered.
 const LOCAL_LIMIT: SequenceNumber = 200;
 
-/// The highest number behind which a renumbering of 202 more still fits 32 bits; above it a block is numbered anew.
-const SEQ_CEILING: SequenceNumber = 4294967093;
+/// The highest number behind which a local renumbering still fits 32 bits; above it a block is numbered anew.
+const SEQ_CEILING: SequenceNumber = SequenceNumber::MAX - LOCAL_LIMIT - MINOR_STRIDE;
 
 /// A local renumbering passed its limit, when it had stored this many numbers.
 #[derive(Clone, Copy)]
@@ -101,7 +101,7 @@ fn renumber_whole(insts: &mut [InstNode], first: Option<Inst>) -> u32
 }
 
 // Numbers `inst` where the numbers of its neighbours leave none: local renumbering, and if that passes its limit, the whole block.
-// Returns how many numbers were stored by both.
+// Returns how many numbers were stored by both. A step of its own, since its proof is by hand.
 fn renumber_crowded(
     insts: &mut [InstNode],
     first: Option<Inst>,
@@ -118,8 +118,9 @@ fn renumber_crowded(
     }
 }
 
-// Goes on with a local renumbering that has given `inst` the number `seq`. No iterator goes along the links here and in `renumber_from`: it
-// would borrow the nodes that the loop writes.
+// Goes on with a local renumbering that has given `inst` the number `seq`. A step of its own: the loop's proof begins by hand, which in the
+// public function would hide a wrong edit of it. No iterator goes along the links here and in `renumber_from`: it would borrow the nodes
+// that the loop writes.
 fn renumber_behind(
     insts: &mut [InstNode],
     inst: Inst,
@@ -144,8 +145,9 @@ fn renumber_behind(
     Ok(count)
 }
 
-// Whether a local renumbering that gave the number `seq` last, `count` numbers stored so far, has caught up with the number that is
-// there next. If not, it goes on, unless it has passed its limit.
+// Whether a local renumbering that gave the number `seq` last, `count` numbers stored so far, has caught up with the number that is there
+// next. If not, it goes on, unless it has passed its limit. A step of its own, so that a wrong test is refused where it stands: the loop's
+// own answers are by hand.
 fn has_caught_up(
     seq: SequenceNumber,
     next_seq: SequenceNumber,
@@ -163,7 +165,8 @@ fn has_caught_up(
     Ok(false)
 }
 
-// Numbers the instructions from `first` to the end of its block: `seq`, a stride more, and so on. Returns how many those are.
+// Numbers the instructions from `first` to the end of its block: `seq`, a stride more, and so on. Returns how many those are. A step of its
+// own, since its loop's proof is by hand.
 fn renumber_from(insts: &mut [InstNode], first: Option<Inst>, mut seq: SequenceNumber) -> u32
     requires run { SomeRun insts.old first }
     requires room { seq + 10 * 1024 < 2 ^ 32 }
@@ -179,6 +182,8 @@ fn renumber_from(insts: &mut [InstNode], first: Option<Inst>, mut seq: SequenceN
     }
     count
 }
+
+// The reads and writes below work on the slice itself, as the operations of chains do, and ask that what they are given lies inside.
 
 // The number of the instruction ahead of `inst`, or 0, the number of the block itself.
 #[tactic(auto, using(crate::proofs::Renumbering::reads_prev))]

@@ -22,7 +22,7 @@ use std::cmp::Ordering;
 pub fn pp_block(listing: &Listing, pp: ProgramPoint) -> Result<Block, LayoutFault>
     ensures { told_found result ≡ pp_block_rule pp (program listing.now) }
 {
-    asked::in_range(pp)?;
+    asked::ensure_in_range(pp)?;
     block_of(listing, pp)
 }
 
@@ -31,28 +31,26 @@ pub fn pp_cmp(listing: &Listing, a: ProgramPoint, b: ProgramPoint) -> Result<Ord
     ensures numbers { told result ≡ pp_cmp_rule a b (program listing.now) }
     ensures walk { IfAccepted result (Ranked (program listing.now) a b) }
 {
-    asked::in_range(a)?;
-    asked::in_range(b)?;
+    asked::ensure_in_range(a)?;
+    asked::ensure_in_range(b)?;
     let a_block = block_of(listing, a)?;
     let b_block = block_of(listing, b)?;
-    asked::ask(a_block == b_block, LayoutFault::DifferentBlocks(b.into()))?;
+    asked::ensure(a_block == b_block, LayoutFault::DifferentBlocks(b.into()))?;
     Ok(order_in(listing, a_block, a, b))
 }
 
-// Is what stands at the point there? Then its block is found; a block is its own, inserted or not.
+// The block of a point. Asks whether an instruction is inserted; a block is its own, inserted or not.
 fn block_of(listing: &Listing, pp: ProgramPoint) -> Result<Block, LayoutFault>
     ensures { Asked (inserted_point pp (program listing.now)) (NotInserted (entity_at pp)) result (λ block. point_block pp (program listing.now) ≡ Some block) }
 {
     match pp {
-        ProgramPoint::Inst(inst) => reads::inst_node(listing, inst)
-            .block
-            .ok_or(LayoutFault::NotInserted(pp.into())),
+        ProgramPoint::Inst(inst) => asked::block_of_inst(listing, inst),
         ProgramPoint::Block(block) => Ok(block),
     }
 }
 
-// How two points of `block` stand to each other, by their numbers and in its walk. A step of its own, since the caller's proof did not close
-// without one.
+// How two points of `block` stand to each other, by their numbers and in its walk; that both are of one block is what makes the two agree.
+// A step of its own, since the caller's proof did not close without one.
 fn order_in(listing: &Listing, block: Block, a: ProgramPoint, b: ProgramPoint) -> Ordering
     requires a { point_block a (program listing.now) ≡ Some block }
     requires b { point_block b (program listing.now) ≡ Some block }

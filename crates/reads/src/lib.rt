@@ -1,4 +1,4 @@
-//! The reads of a listing's nodes, each by what it says of the program that the tables hold.
+//! The reads of a listing's nodes, each by what it says of the program that the listing holds.
 
 #![tactic(auto)]
 

@@ -12,13 +12,14 @@ use entities::nodes::{BlockNode, InstNode, Tables};
 use entities::{BLOCK_CAPACITY, Block, INST_CAPACITY};
 use listing::Listing;
 
-// The ends of a chain of no blocks.
+// The ends of a chain of no blocks. No constant of `Ends` itself: a proof would not know the value of one of a generic type.
 const NO_ENDS: Ends<Block> = Ends {
     first: None,
     last: None,
 };
 
-/// A listing of nothing but the mark `cold` of every block.
+/// A listing of nothing but the mark `cold` of every block. A layout begins with none; that is a parameter so that a wrong mark is refused
+/// where it is given.
 pub fn unlinked(cold: bool) -> Listing
     ensures { program result ≡ record { lines = []; cold = replicate 256 cold } }
 {
@@ -47,8 +48,8 @@ pub fn set_cold(listing: &mut Listing, block: Block)
     listing.tables.blocks[block.index()].cold = true;
 }
 
-// A listing whose block nodes are all `block`, which has no link and no instruction. A step of its own, since the caller's proof did not close
-// without one.
+// A listing whose block nodes are all `block`, which has no link and no instruction. A step of its own, since the caller's proof did not
+// close without one.
 fn repeated(block: BlockNode) -> Listing
     requires { block ≡ only_mark block.cold }
     ensures { program result ≡ record { lines = []; cold = replicate 256 block.cold } }

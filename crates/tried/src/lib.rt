@@ -10,11 +10,5 @@ pub fn tried_cases() -> u32
     ensures count { result ≡ 8 }
     ensures cases { Tried }
 {
-    computed();
     8
 }
-
-// The cases, each computed by the rules.
-fn computed()
-    ensures { Tried }
-{}

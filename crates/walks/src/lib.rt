@@ -5,7 +5,7 @@
 
 #![tactic(auto)]
 
-ghost use Rattle.std.specs.Prelude.{◌≡◌, true, [], ◌∷◌, ◌++◌, length, Some};
+ghost use Rattle.std.specs.Prelude.{◌≡◌, true, length};
 ghost use Rattle.entities.specs.Program.{blocks_of};
 ghost use Rattle.entities.specs.Reading.{block_insts};
 ghost use Rattle.listing.specs.Held.{program};
@@ -16,7 +16,8 @@ use chain::Ends;
 use entities::{Block, Inst};
 use listing::Listing;
 
-// The ends of what is left once every instruction was given.
+// The ends of what is left once every instruction was given. No constant of `Ends` itself: a proof would not know the value of one of a
+// generic type.
 const NONE_LEFT: Ends<Inst> = Ends {
     first: None,
     last: None,
@@ -121,8 +122,8 @@ impl<'f> Insts<'f> {
     }
 }
 
-// A rule of the project wants both forms: the stepping calls carry the contracts, and the iterators add `for` to them and no more. `next`
-// and `next_back` are mirror images; one function of either end would ask at each use of an end which one it is.
+// Both forms are there: the stepping calls carry the contracts, and the iterators add `for` to them and no more (docs/DECISIONS.md, "The
+// steps of a walk"). `next` and `next_back` are mirror images; one function of either end would ask at each use of an end which one it is.
 
 impl Iterator for Blocks<'_> {
     type Item = Block;

@@ -17,7 +17,7 @@ append-new-requires c =
     let t = c.args.tables.now in
     let law = (sound_out c.requires.sound).wired in
     record {
-      key = subst (λ n. c.args.inst.0 < n) (sym law.insts_size) c.requires.range;
+      key = subst (λ n. c.args.inst.0 < n) (sym law.insts_size) c.requires.free.0;
       last = subst (λ (e : Ends Inst). Within inst_place (length t.insts) e.last) (sym c.inst_ends-old.ensures) (last_low t c.args.block law (block_stands t c.args.block c.requires.inserted));
     }
 
@@ -25,4 +25,4 @@ pub set_inst_ends-requires : goal.set_inst_ends-requires
 set_inst_ends-requires c = let t = c.args.tables.now in (in_table t c.args.block (sound_out c.requires.sound).wired (block_stands t c.args.block c.requires.inserted)).here
 
 pub returns : goal.returns
-returns c = record { linked = put_last c.args.tables.now c.args.block c.args.inst _ _ _ _ _ _ _ c.requires.sound c.requires.range c.requires.fresh c.inst_ends-old.ensures c.append-new.ensures.table c.append-new.ensures.chain c.set_inst_ends.ensures c.set_block.ensures refl refl c.requires.inserted }
+returns c = record { linked = put_last c.args.tables.now c.args.block c.args.inst _ _ _ _ _ _ _ c.requires.sound c.requires.free.0 c.requires.free.1 c.inst_ends-old.ensures c.append-new.ensures.table c.append-new.ensures.chain c.set_inst_ends.ensures c.set_block.ensures refl refl c.requires.inserted }
