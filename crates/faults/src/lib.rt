@@ -4,7 +4,7 @@
 
 ghost use Rattle.std.specs.Prelude.{◌≡◌, Some};
 ghost use Rattle.faults.specs.Refusals.{refusal_of, entity_at};
-ghost use Rattle.faults.specs.Text.{layer_text, entity_text};
+ghost use Rattle.faults.specs.Text.{layer_text, entity_text, reason_text, fault_text};
 
 use entities::progpoint::ProgramPoint;
 use entities::{Block, Inst};
@@ -86,6 +86,19 @@ impl LayoutFault {
             | LayoutFault::DifferentBlocks(entity) => entity,
         }
     }
+
+    // What is wrong with it.
+    fn reason(self) -> &'static str
+        ensures { result.now ≡ reason_text self }
+    {
+        match self {
+            LayoutFault::OutOfRange(_) => "is out of range",
+            LayoutFault::NotInserted(_) => "is not inserted",
+            LayoutFault::AlreadyInserted(_) => "is inserted already",
+            LayoutFault::NotEmpty(_) => "has instructions",
+            LayoutFault::DifferentBlocks(_) => "is in another block",
+        }
+    }
 }
 
 impl fmt::Display for Layer {
@@ -112,20 +125,16 @@ impl fmt::Display for Entity {
 }
 
 impl fmt::Display for LayoutFault {
+    ghost output = { λ f. Some (fault_text f) };
+
     fn fmt<W: fmt::Write>(&self, f: &mut fmt::Formatter<W>) -> fmt::Result {
-        let reason = match self {
-            LayoutFault::OutOfRange(_) => "is out of range",
-            LayoutFault::NotInserted(_) => "is not inserted",
-            LayoutFault::AlreadyInserted(_) => "is inserted already",
-            LayoutFault::NotEmpty(_) => "has instructions",
-            LayoutFault::DifferentBlocks(_) => "is in another block",
-        };
         write!(
             f,
-            "refused with {} by the {}: {} {reason}",
+            "refused with {} by the {}: {} {}",
             self.number(),
             self.layer(),
-            self.entity()
+            self.entity(),
+            self.reason()
         )
     }
 }
