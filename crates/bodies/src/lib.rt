@@ -2,12 +2,12 @@
 
 #![tactic(auto)]
 
-ghost use Rattle.std.specs.Prelude.{◌≡◌, ◌<◌, length, Some};
+ghost use Rattle.std.specs.Prelude.{◌≡◌, ◌<◌, true, length, Some};
 ghost use Rattle.chain.specs.Chain.{keys_from};
 ghost use Rattle.chain.specs.Table.{read_at, Within};
 ghost use Rattle.entities.specs.Nodes.{ends_of, inst_links, inst_place};
-ghost use Rattle.entities.specs.Program.{split_block, with_lines};
-ghost use Rattle.entities.specs.Reading.{inst_block, BlockFree};
+ghost use Rattle.entities.specs.Program.{remove_block, split_block, with_lines};
+ghost use Rattle.entities.specs.Reading.{inserted_block, inst_block, BlockFree};
 ghost use Rattle.listing.specs.Edits.{cut_off, ends_ahead, named};
 ghost use Rattle.listing.specs.Held.{program};
 ghost use Rattle.listing.specs.Numbers.{SomeRun};
@@ -17,7 +17,8 @@ use entities::nodes::{InstNode, Tables};
 use entities::{Block, Inst};
 use listing::Listing;
 
-// As in `block_edits` and `inst_edits`, that a block is free and where an instruction stands are facts until the next edit, and so clauses.
+// As in `block_edits` and `inst_edits`, that a block is free or inserted and where an instruction stands are facts until the next edit, and
+// so clauses.
 
 /// Puts `new_block` directly behind `block`, in which `before` stands, and moves `before` and all that follow it into it.
 #[tactic(auto, using(crate::proofs::Splitting::steps))]
@@ -31,6 +32,18 @@ pub fn split_block(listing: &mut Listing, new_block: Block, before: Inst, block:
     let tables = &mut listing.tables;
     cut_off(tables, block, before, new_block);
     name_all(&mut tables.insts, Some(before), new_block);
+}
+
+/// Takes out `block`, its instructions first.
+#[tactic(auto, using(crate::proofs::Emptying::emptying))]
+pub fn remove_block_and_insts(listing: &mut Listing, block: Block)
+    requires { inserted_block block (program listing.old) ≡ true }
+    ensures { program listing.new ≡ with_lines (program listing.old) (remove_block block (program listing.old).lines) }
+{
+    while let Some(inst) = reads::block_node(listing, block).first_inst {
+        inst_edits::remove_inst(listing, inst, block);
+    }
+    block_edits::remove_block(listing, block);
 }
 
 // Links `before` and all that follow it as the chain of `new_block`, and leaves `block` what is ahead of them; they still name `block`, so

@@ -4,6 +4,9 @@
 #![tactic(auto)]
 
 #[cfg(test)]
+mod ceiling;
+
+#[cfg(test)]
 mod tests {
     use entities::progpoint::ProgramPoint;
     use entities::{Block, Inst};
@@ -41,7 +44,14 @@ mod tests {
     #[derive(Clone, Copy)]
     enum Call {
         AppendBlock(u32),
+        InsertBlock(u32, u32),
+        InsertBlockAfter(u32, u32),
+        RemoveBlock(u32),
+        RemoveBlockAndInsts(u32),
+        SplitBlock(u32, u32),
         AppendInst(u32, u32),
+        InsertInst(u32, u32),
+        RemoveInst(u32),
         SetCold(u32),
         PpBlock(Point),
         PpCmp(Point, Point),
@@ -55,8 +65,9 @@ mod tests {
     #[derive(Clone, Copy)]
     struct Case(Call, Option<Refusal>);
 
-    // Every call at the edges of the two ranges, in turn on one layout.
-    const EDGES: [Case; 30] = [
+    // Every call at the edges of the two ranges, in turn on one layout. A table is a slice: over an array, a test's proof would have every
+    // row in it.
+    const EDGES: &[Case] = &[
         Case(Call::AppendBlock(255), None),
         Case(Call::AppendBlock(256), Some(Refusal(2, Point::B(256)))),
         Case(Call::AppendBlock(1023), Some(Refusal(2, Point::B(1023)))),
@@ -130,7 +141,7 @@ mod tests {
 
     // A call that would fail two questions names the first: the range of each number as given, then what must be inserted, then what
     // must not be, and for a comparison one block last.
-    const FIRST_NO: [Case; 15] = [
+    const FIRST_NO: &[Case] = &[
         Case(
             Call::AppendInst(1024, 256),
             Some(Refusal(2, Point::I(1024))),
@@ -169,6 +180,167 @@ mod tests {
         ),
     ];
 
+    // Every refusal of every edit, that of each number where a call gets two, and which of two refusals comes first: on a layout with inst0
+    // and inst1 in block1, and block2 empty behind it. `clear` is never refused.
+    const REFUSED: &[(Call, Refusal)] = &[
+        (Call::AppendBlock(256), Refusal(2, Point::B(256))),
+        (Call::AppendBlock(1), Refusal(6, Point::B(1))),
+        (Call::InsertBlock(256, 1), Refusal(2, Point::B(256))),
+        (Call::InsertBlock(3, 256), Refusal(2, Point::B(256))),
+        (Call::InsertBlock(257, 256), Refusal(2, Point::B(257))),
+        (Call::InsertBlock(3, 7), Refusal(5, Point::B(7))),
+        (Call::InsertBlock(2, 7), Refusal(5, Point::B(7))),
+        (Call::InsertBlock(2, 1), Refusal(6, Point::B(2))),
+        (Call::InsertBlock(1, 1), Refusal(6, Point::B(1))),
+        (Call::InsertBlockAfter(256, 1), Refusal(2, Point::B(256))),
+        (
+            Call::InsertBlockAfter(3, 4294967295),
+            Refusal(2, Point::B(4294967295)),
+        ),
+        (Call::InsertBlockAfter(257, 256), Refusal(2, Point::B(257))),
+        (Call::InsertBlockAfter(3, 7), Refusal(5, Point::B(7))),
+        (Call::InsertBlockAfter(2, 7), Refusal(5, Point::B(7))),
+        (Call::InsertBlockAfter(1, 2), Refusal(6, Point::B(1))),
+        (Call::InsertBlockAfter(1, 1), Refusal(6, Point::B(1))),
+        (Call::RemoveBlock(256), Refusal(2, Point::B(256))),
+        (Call::RemoveBlock(7), Refusal(5, Point::B(7))),
+        (Call::RemoveBlock(1), Refusal(7, Point::B(1))),
+        (Call::RemoveBlockAndInsts(256), Refusal(2, Point::B(256))),
+        (Call::RemoveBlockAndInsts(7), Refusal(5, Point::B(7))),
+        (Call::SplitBlock(256, 0), Refusal(2, Point::B(256))),
+        (Call::SplitBlock(256, 1024), Refusal(2, Point::B(256))),
+        (Call::SplitBlock(3, 1024), Refusal(2, Point::I(1024))),
+        (Call::SplitBlock(3, 9), Refusal(5, Point::I(9))),
+        (Call::SplitBlock(2, 9), Refusal(5, Point::I(9))),
+        (Call::SplitBlock(2, 0), Refusal(6, Point::B(2))),
+        (Call::SplitBlock(1, 0), Refusal(6, Point::B(1))),
+        (Call::AppendInst(1024, 1), Refusal(2, Point::I(1024))),
+        (Call::AppendInst(1024, 256), Refusal(2, Point::I(1024))),
+        (Call::AppendInst(5, 256), Refusal(2, Point::B(256))),
+        (Call::AppendInst(5, 7), Refusal(5, Point::B(7))),
+        (Call::AppendInst(1, 7), Refusal(5, Point::B(7))),
+        (Call::AppendInst(1, 2), Refusal(6, Point::I(1))),
+        (Call::InsertInst(1024, 0), Refusal(2, Point::I(1024))),
+        (Call::InsertInst(1025, 1024), Refusal(2, Point::I(1025))),
+        (Call::InsertInst(5, 1024), Refusal(2, Point::I(1024))),
+        (Call::InsertInst(5, 9), Refusal(5, Point::I(9))),
+        (Call::InsertInst(1, 9), Refusal(5, Point::I(9))),
+        (Call::InsertInst(1, 0), Refusal(6, Point::I(1))),
+        (Call::InsertInst(0, 0), Refusal(6, Point::I(0))),
+        (Call::RemoveInst(1024), Refusal(2, Point::I(1024))),
+        (Call::RemoveInst(9), Refusal(5, Point::I(9))),
+        (Call::SetCold(256), Refusal(2, Point::B(256))),
+    ];
+
+    // Edits in turn on an empty layout, each with how many numbers it writes; and then the blocks in order, each with its instructions and
+    // their numbers in order.
+    #[derive(Clone, Copy)]
+    struct Run {
+        edits: &'static [(Call, u32)],
+        blocks: &'static [(u32, &'static [(u32, u32)])],
+    }
+
+    const RUNS: &[Run] = &[
+        // append stride, midpoint down to no room between 19 and 20, and then a local renumbering to the block's end
+        Run {
+            edits: &[
+                (Call::AppendBlock(0), 0),
+                (Call::AppendInst(0, 0), 1),
+                (Call::AppendInst(1, 0), 1),
+                (Call::InsertInst(2, 1), 1),
+                (Call::InsertInst(3, 1), 1),
+                (Call::InsertInst(4, 1), 1),
+                (Call::InsertInst(5, 1), 1),
+                (Call::InsertInst(6, 1), 2),
+            ],
+            blocks: &[(
+                0,
+                &[
+                    (0, 10),
+                    (2, 15),
+                    (3, 17),
+                    (4, 18),
+                    (5, 19),
+                    (6, 21),
+                    (1, 23),
+                ],
+            )],
+        },
+        // four insertions at the head of a lone 10, the last of which is a local renumbering that catches up with it
+        Run {
+            edits: &[
+                (Call::AppendBlock(0), 0),
+                (Call::AppendInst(0, 0), 1),
+                (Call::InsertInst(1, 0), 1),
+                (Call::InsertInst(2, 1), 1),
+                (Call::InsertInst(3, 2), 1),
+                (Call::InsertInst(4, 3), 4),
+            ],
+            blocks: &[(0, &[(4, 2), (3, 4), (2, 6), (1, 8), (0, 10)])],
+        },
+        // a block of 3/5, 1/10 and 2/20, instruction and number, split at instruction 1
+        Run {
+            edits: &[
+                (Call::AppendBlock(0), 0),
+                (Call::AppendInst(1, 0), 1),
+                (Call::AppendInst(2, 0), 1),
+                (Call::InsertInst(3, 1), 1),
+                (Call::AppendBlock(9), 0),
+                (Call::SplitBlock(1, 1), 0),
+            ],
+            blocks: &[(0, &[(3, 5)]), (1, &[(1, 10), (2, 20)]), (9, &[])],
+        },
+        // a last block, split at its first instruction: it stays, empty, and the new one is the last
+        Run {
+            edits: &[
+                (Call::AppendBlock(9), 0),
+                (Call::AppendBlock(0), 0),
+                (Call::AppendInst(1, 0), 1),
+                (Call::AppendInst(2, 0), 1),
+                (Call::InsertInst(3, 1), 1),
+                (Call::SplitBlock(1, 3), 0),
+            ],
+            blocks: &[(9, &[]), (0, &[]), (1, &[(3, 5), (1, 10), (2, 20)])],
+        },
+        // blocks put in at both sides of others, and taken out from the middle, from the front and from the end
+        Run {
+            edits: &[
+                (Call::AppendBlock(4), 0),
+                (Call::InsertBlock(2, 4), 0),
+                (Call::InsertBlockAfter(3, 2), 0),
+                (Call::InsertBlockAfter(5, 4), 0),
+                (Call::InsertBlock(1, 2), 0),
+                (Call::InsertBlock(0, 5), 0),
+                (Call::RemoveBlock(3), 0),
+                (Call::RemoveBlock(1), 0),
+                (Call::RemoveBlock(5), 0),
+            ],
+            blocks: &[(2, &[]), (4, &[]), (0, &[])],
+        },
+        // instructions taken out from the middle, the front and the end, and a block with those that it has: the others keep their numbers
+        Run {
+            edits: &[
+                (Call::AppendBlock(6), 0),
+                (Call::AppendBlock(4), 0),
+                (Call::AppendBlock(2), 0),
+                (Call::AppendInst(7, 6), 1),
+                (Call::AppendInst(8, 6), 1),
+                (Call::AppendInst(9, 6), 1),
+                (Call::AppendInst(10, 6), 1),
+                (Call::AppendInst(11, 4), 1),
+                (Call::AppendInst(12, 4), 1),
+                (Call::AppendInst(13, 2), 1),
+                (Call::RemoveInst(8), 0),
+                (Call::RemoveInst(7), 0),
+                (Call::RemoveInst(10), 0),
+                (Call::RemoveBlockAndInsts(4), 0),
+                (Call::RemoveInst(13), 0),
+                (Call::AppendInst(12, 2), 1),
+            ],
+            blocks: &[(6, &[(9, 30)]), (2, &[(12, 10)])],
+        },
+    ];
+
     // Two points of a layout with inst8 and then inst2 in block3, and how the first stands to the second.
     const RANKS: [(Point, Point, Ordering); 8] = [
         (Point::B(9), Point::B(9), Ordering::Equal),
@@ -181,17 +353,76 @@ mod tests {
         (Point::I(2), Point::I(2), Ordering::Equal),
     ];
 
+    // What a call answers: an edit how many numbers it wrote, and any other call that it has an answer, by 0.
+    fn answer_of(layout: &mut Layout, call: Call) -> Result<u32, LayoutFault> {
+        match call {
+            Call::AppendBlock(b) => layout.append_block(Block::from_u32(b)),
+            Call::InsertBlock(b, at) => layout.insert_block(
+                Block::from_u32(b),
+                Block::from_u32(at),
+            ),
+            Call::InsertBlockAfter(b, at) => layout.insert_block_after(
+                Block::from_u32(b),
+                Block::from_u32(at),
+            ),
+            Call::RemoveBlock(b) => layout.remove_block(Block::from_u32(b)),
+            Call::RemoveBlockAndInsts(b) => layout.remove_block_and_insts(Block::from_u32(b)),
+            Call::SplitBlock(b, i) => layout.split_block(Block::from_u32(b), Inst::from_u32(i)),
+            Call::AppendInst(i, b) => layout.append_inst(Inst::from_u32(i), Block::from_u32(b)),
+            Call::InsertInst(i, at) => layout.insert_inst(Inst::from_u32(i), Inst::from_u32(at)),
+            Call::RemoveInst(i) => layout.remove_inst(Inst::from_u32(i)),
+            Call::SetCold(b) => layout.set_cold(Block::from_u32(b)),
+            Call::PpBlock(p) => layout.pp_block(p.into()).and(Ok(0)),
+            Call::PpCmp(a, b) => layout.pp_cmp(a.into(), b.into()).and(Ok(0)),
+        }
+    }
+
     // The fault of a call, none where it is accepted: an `Option`, as the refusal of a case is one.
     fn fault_of(layout: &mut Layout, call: Call) -> Option<LayoutFault> {
-        match call {
-            Call::AppendBlock(b) => layout.append_block(Block::from_u32(b)).err(),
-            Call::AppendInst(i, b) => layout
-                .append_inst(Inst::from_u32(i), Block::from_u32(b))
-                .err(),
-            Call::SetCold(b) => layout.set_cold(Block::from_u32(b)).err(),
-            Call::PpBlock(p) => layout.pp_block(p.into()).err(),
-            Call::PpCmp(a, b) => layout.pp_cmp(a.into(), b.into()).err(),
+        answer_of(layout, call).err()
+    }
+
+    fn writes(layout: &mut Layout, call: Call, count: u32) -> bool {
+        answer_of(layout, call).ok() == Some(count)
+    }
+
+    // `block` holds exactly these instructions with these numbers, in this order, forward and backward, and each names it.
+    fn holds_slots(layout: &Layout, block: u32, slots: &[(u32, u32)]) -> bool {
+        let home = Block::from_u32(block);
+        let mut forward = layout.block_insts(home);
+        for (i, seq) in slots {
+            let inst = Inst::from_u32(*i);
+            let named = layout.inst_block(inst) == Some(home);
+            if forward.next() != Some(inst) || !named || layout.inst_seq(inst) != Some(*seq) {
+                return false;
+            }
         }
+        let mut backward = layout.block_insts(home);
+        for (i, _) in slots.iter().rev() {
+            if backward.next_back() != Some(Inst::from_u32(*i)) {
+                return false;
+            }
+        }
+        forward.next().is_none() && backward.next_back().is_none()
+    }
+
+    // The layout is exactly these blocks with these instructions and numbers, in this order, forward and backward.
+    fn holds_blocks(layout: &Layout, blocks: &[(u32, &[(u32, u32)])]) -> bool {
+        let mut walk = layout.blocks();
+        for (b, slots) in blocks {
+            if walk.next() != Some(Block::from_u32(*b)) || !holds_slots(layout, *b, slots) {
+                return false;
+            }
+        }
+        let mut back = layout.last_block();
+        for (b, _) in blocks.iter().rev() {
+            let block = Block::from_u32(*b);
+            if back != Some(block) {
+                return false;
+            }
+            back = layout.prev_block(block);
+        }
+        walk.next().is_none() && back.is_none()
     }
 
     fn holds(layout: &mut Layout, case: Case) -> bool {
@@ -220,7 +451,7 @@ mod tests {
     fn every_call_at_the_edges(rt: HostRuntime) {
         let mut layout = Layout::new();
         for case in EDGES {
-            assert!(rt; holds(&mut layout, case));
+            assert!(rt; holds(&mut layout, *case));
         }
     }
 
@@ -228,8 +459,110 @@ mod tests {
     fn the_first_no_refuses(rt: HostRuntime) {
         let mut layout = Layout::new();
         for case in FIRST_NO {
-            assert!(rt; holds(&mut layout, case));
+            assert!(rt; holds(&mut layout, *case));
         }
+    }
+
+    #[test]
+    fn each_refusal_of_each_edit(rt: HostRuntime) {
+        let mut layout = Layout::new();
+        for (call, count) in [
+            (Call::AppendBlock(1), 0),
+            (Call::AppendBlock(2), 0),
+            (Call::AppendInst(0, 1), 1),
+            (Call::AppendInst(1, 1), 1),
+        ] {
+            assert!(rt; writes(&mut layout, call, count));
+        }
+        for (call, refusal) in REFUSED {
+            assert!(rt; holds(&mut layout, Case(*call, Some(*refusal))));
+            // nothing has changed
+            assert!(rt; holds_blocks(&layout, &[(1, &[(0, 10), (1, 20)]), (2, &[])]));
+            for n in [3, 5, 7, 9, 256, 257, 1024, 1025, 4294967295] {
+                assert!(rt; is_stranger(&layout, n));
+            }
+        }
+    }
+
+    #[test]
+    fn edits_in_turn(rt: HostRuntime) {
+        let mut layout = Layout::new();
+        for run in RUNS {
+            for (call, count) in run.edits {
+                assert!(rt; writes(&mut layout, *call, *count));
+            }
+            assert!(rt; holds_blocks(&layout, run.blocks));
+            let _ = layout.clear();
+        }
+    }
+
+    // The 102nd insertion at a block's head finds no room: a local renumbering stores 101 numbers and passes its limit, and then all 103
+    // are numbered anew.
+    #[test]
+    fn full_block_renumbering(rt: HostRuntime) {
+        let mut layout = Layout::new();
+        assert!(rt; writes(&mut layout, Call::AppendBlock(0), 0));
+        assert!(rt; writes(&mut layout, Call::AppendInst(0, 0), 1));
+        for n in 0..101 {
+            assert!(rt; fault_of(&mut layout, Call::InsertInst(n + 1, n)).is_none());
+        }
+        assert!(rt; writes(&mut layout, Call::InsertInst(102, 101), 204));
+        for n in 0..103 {
+            assert!(rt; layout.inst_seq(Inst::from_u32(102 - n)) == Some(10 * (n + 1)));
+        }
+    }
+
+    // Filled to the last block and instruction, four to a block, and emptied in another order: the odd instructions from the highest down,
+    // the blocks that are empty then from the lowest up, and the others with their instructions from the highest down.
+    #[test]
+    fn filled_and_emptied(rt: HostRuntime) {
+        let mut layout = Layout::new();
+        for n in 0..256 {
+            assert!(rt; writes(&mut layout, Call::AppendBlock(n), 0));
+        }
+        for n in 0..1024 {
+            assert!(rt; writes(&mut layout, Call::AppendInst(n, n % 256), 1));
+        }
+        for n in 0..512 {
+            assert!(rt; writes(&mut layout, Call::RemoveInst(1023 - 2 * n), 0));
+        }
+        for n in 0..128 {
+            assert!(rt; writes(&mut layout, Call::RemoveBlock(2 * n + 1), 0));
+        }
+        for n in 0..128 {
+            assert!(rt; writes(&mut layout, Call::RemoveBlockAndInsts(254 - 2 * n), 0));
+        }
+        for n in 0..1024 {
+            assert!(rt; is_stranger(&layout, n));
+        }
+        assert!(rt; layout.entry_block().is_none() && layout.last_block().is_none());
+    }
+
+    // 1,000 instructions, each put in at the head, write 31,865 numbers in all; then each is taken out again from the head.
+    #[test]
+    fn a_thousand_at_the_head(rt: HostRuntime) {
+        let mut layout = Layout::new();
+        let home = Block::from_u32(0);
+        assert!(rt; writes(&mut layout, Call::AppendBlock(0), 0));
+        let mut total = layout
+            .append_inst(Inst::from_u32(0), home)
+            .ok()
+            .unwrap_or(0);
+        for n in 0..999 {
+            let inst = Inst::from_u32(n + 1);
+            let count = layout
+                .insert_inst(inst, Inst::from_u32(n))
+                .ok()
+                .unwrap_or(0);
+            assert!(rt; count > 0 && layout.first_inst(home) == Some(inst));
+            total = total.saturating_add(count);
+        }
+        assert!(rt; total == 31865 && layout.inst_seq(Inst::from_u32(999)) == Some(1));
+        assert!(rt; layout.inst_seq(Inst::from_u32(0)) == Some(9230));
+        for n in 0..1000 {
+            assert!(rt; writes(&mut layout, Call::RemoveInst(999 - n), 0));
+        }
+        assert!(rt; layout.first_inst(home).is_none() && layout.last_inst(home).is_none());
     }
 
     #[test]
@@ -337,8 +670,10 @@ mod tests {
         let marked = layout.is_cold(home) && !layout.is_block_inserted(home);
         let _ = layout.append_block(home);
         let kept = layout.is_cold(home) && !layout.is_cold(Block::from_u32(8));
+        let removed = layout.remove_block(home) == Ok(0) && !layout.is_block_inserted(home);
+        let outlives = layout.is_cold(home);
         let _ = layout.clear();
-        assert!(rt; marked && kept && !layout.is_cold(home) && !layout.is_block_inserted(home));
+        assert!(rt; marked && kept && removed && outlives && !layout.is_cold(home));
     }
 
     #[test]

@@ -29,7 +29,7 @@ FirstNo qs (Err f) Found = first_no qs ≡ Some (refusal_of f)
 FirstNo qs (Ok a) Found = (first_no qs ≡ None) × Found a
 
 -- one question put: its yes lets the call go on, and `Found` holds of what it gives; its no refuses the call with the fault f
-abbrev pub Asked : {A : Type 0} → Bool → LayoutFault → Result A LayoutFault → (A → Type 0) → Type 0
+abbrev pub Asked : {A F : Type 0} → Bool → F → Result A F → (A → Type 0) → Type 0
 Asked q f (Ok a) Found = (q ≡ true) × Found a
 Asked q f (Err g) Found = (q ≡ false) × (g ≡ f)
 

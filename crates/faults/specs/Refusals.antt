@@ -46,7 +46,7 @@ abbrev pub IfAccepted : {A : Type 0} → Result A LayoutFault → (A → Type 0)
 IfAccepted (Ok a) P = P a
 IfAccepted (Err f) P = Unit {0}
 
--- a refusal leaves the very same value
-abbrev pub SameIfRefused : {A X : Type 0} → Result A LayoutFault → X → X → Type 0
+-- a refusal, by a fault of any layer, leaves the very same value
+abbrev pub SameIfRefused : {A F X : Type 0} → Result A F → X → X → Type 0
 SameIfRefused (Ok a) before after = Unit {0}
 SameIfRefused (Err f) before after = after ≡ before

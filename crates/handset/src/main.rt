@@ -1,4 +1,4 @@
-//! The handset: enters a dispatch program, asks who comes first, and prints it.
+//! The handset: enters a dispatch program, asks who comes first, patches and cuts it, and prints it.
 
 #![tactic(auto)]
 
@@ -18,9 +18,10 @@ const BLOCKS: [(u32, &str); 3] = [
 ];
 
 // Its instructions, in the order in which the mechanic appends them: number, block and what it does.
-const INSTS: [(u32, u32, &str); 7] = [
+const INSTS: [(u32, u32, &str); 8] = [
     (7, 0, "instruction 7, send car A to the lobby"),
     (0, 0, "instruction 0, hold its doors for 8 seconds"),
+    (8, 4, "instruction 8, light the hall lanterns"),
     (9, 4, "instruction 9, car B answers landing 5"),
     (3, 4, "instruction 3, car A answers landing 5"),
     (12, 4, "instruction 12, car C stays where it is"),
@@ -33,6 +34,12 @@ const SLIPS: [(u32, &str); 2] = [
     (4, "block 4, entered a second time"),
     (256, "block 256, past the highest, 255"),
 ];
+
+// The patch, which goes in between two neighbours: number and what it does.
+const PATCH: (u32, &str) = (6, "instruction 6, car D answers landing 5 if it is empty");
+
+// The block into which the rest of block 4 moves where that is cut.
+const CUT: (u32, &str) = (6, "block 6, landing 5");
 
 // What was entered, and what the layout answered.
 #[derive(Drop)]
@@ -70,10 +77,9 @@ struct Numbered(Option<u32>, Inst);
 impl Display for Numbered {
     fn fmt<W: fmt::Write>(&self, f: &mut fmt::Formatter<W>) -> fmt::Result {
         let seq = self.0.unwrap_or(0);
-        match INSTS.iter().find(|entry| entry.0 == self.1.as_u32()) {
-            Some((_, _, what)) => writeln!(f, "  {seq:>4}  {what}"),
-            None => Ok(()),
-        }
+        let appended = INSTS.iter().find(|entry| entry.0 == self.1.as_u32());
+        let what = appended.map_or(PATCH.1, |entry| entry.2);
+        writeln!(f, "  {seq:>4}  {what}")
     }
 }
 
@@ -83,9 +89,25 @@ struct Named(Block);
 
 impl Display for Named {
     fn fmt<W: fmt::Write>(&self, f: &mut fmt::Formatter<W>) -> fmt::Result {
-        match BLOCKS.iter().find(|entry| entry.0 == self.0.as_u32()) {
-            Some((_, what)) => writeln!(f, "{what}"),
-            None => Ok(()),
+        let appended = BLOCKS.iter().find(|entry| entry.0 == self.0.as_u32());
+        let what = appended.map_or(CUT.1, |entry| entry.1);
+        writeln!(f, "{what}")
+    }
+}
+
+// An instruction, and the block that it names.
+#[derive(Drop)]
+struct InBlock(Inst, Option<Block>);
+
+impl Display for InBlock {
+    fn fmt<W: fmt::Write>(&self, f: &mut fmt::Formatter<W>) -> fmt::Result {
+        let inst = self.0.as_u32();
+        match self.1 {
+            Some(block) => {
+                let block = block.as_u32();
+                write!(f, "  instruction {inst} is in block {block}")
+            }
+            None => write!(f, "  instruction {inst} is in no block"),
         }
     }
 }
@@ -147,5 +169,33 @@ fn main(rt: HostRuntime) -> io::Result<()> {
     rt.println(Forward(&layout))?;
     rt.println("The program backward:")?;
     rt.println(Backward(&layout))?;
+    rt.println(
+        "A patch is squeezed in between two neighbours, instructions 9 and 3, numbered 20 and 30:",
+    )?;
+    let patch = Inst::from_u32(PATCH.0);
+    rt.println(Entered(PATCH.1, layout.insert_inst(patch, car_a)))?;
+    rt.println("  it gets the number:")?;
+    rt.println(Numbered(layout.inst_seq(patch), patch))?;
+    rt.println(
+        "Block 4 is cut in two ahead of instruction 9, which moves into a new block with all behind it:",
+    )?;
+    let cut = Block::from_u32(CUT.0);
+    rt.println(Entered(CUT.1, layout.split_block(cut, car_b)))?;
+    for block in [Block::from_u32(4), cut] {
+        for inst in layout.block_insts(block) {
+            rt.println(InBlock(inst, layout.inst_block(inst)))?;
+        }
+    }
+    rt.println("\nCars A and B again, now in block 6. Whose instruction comes first?")?;
+    rt.println(Tie(layout.pp_cmp(car_a.into(), car_b.into())))?;
+    rt.println("\nParking is taken out, but not while it has instructions:")?;
+    let parking = Block::from_u32(2);
+    rt.println(Entered("block 2 alone", layout.remove_block(parking)))?;
+    rt.println(Entered(
+        "block 2 with its instructions",
+        layout.remove_block_and_insts(parking),
+    ))?;
+    rt.println("\nThe program forward:")?;
+    rt.println(Forward(&layout))?;
     rt.println(Entered("all taken out", Ok(layout.clear())))
 }

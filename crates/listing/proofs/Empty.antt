@@ -6,7 +6,7 @@ use Rattle.entities.specs.Nodes.{block_links, block_named, first_of, inst_links,
 use Rattle.entities.specs.declared.nodes.Tables.{Tables}
 use Rattle.listing.proofs.Rises.{program_is_now}
 use Rattle.listing.proofs.Unique.{program_is, sound_from}
-use Rattle.listing.specs.Lawful.{AllRising, Represents, Sound, program_of}
+use Rattle.listing.specs.Lawful.{AllWellNumbered, Represents, Sound, program_of}
 
 abbrev pub empty_tables : Bool → Tables
 empty_tables c = record { blocks = replicate 256 (only_mark c); insts = replicate 1024 no_inst; ends = record { first = None; last = None } }
@@ -31,7 +31,7 @@ empty_represents c = record {
 pub empty_sound : (c : Bool) → Sound (empty_tables c)
 empty_sound c = ∣ record {
   wired = record { blocks_size = length-replicate 256 (only_mark c); insts_size = length-replicate 1024 no_inst; sound = sound_from (empty_represents c) };
-  rising = subst (λ q. AllRising q) (sym (program_is (empty_represents c))) tt;
+  numbers = subst (λ q. AllWellNumbered q) (sym (program_is (empty_represents c))) tt;
 } ∣₁
 
 pub empty_program : (c : Bool) → program_of (empty_tables c) ≡ record { lines = []; cold = replicate 256 c }

@@ -91,7 +91,7 @@ module _ (t : Tables) (i : Inst) (b : Block) (h : Sound t) (stands : inst_block 
       (subst (λ (x : Inst). read_at inst_links.prev_of is x.0 ≡ None) ii cut.1)
       (subst (λ (x : Inst). read_at inst_links.next_of is x.0 ≡ None) ii cut.2)
       (subst (λ (x : Inst). u ≡ after_insts t at.it.block (alter is x.0 (λ m. with_block m None)) e) ii (subst (λ x. u ≡ after_insts t x (alter is i.0 (λ m. with_block m None)) e) (sym placed_in.block) made)) in
-      becomes (subst (λ q. Edited t u q) (sym list) edited) (remove_inst_rises i (listed t) law.rising)
+      becomes (subst (λ q. Edited t u q) (sym list) edited) (remove_inst_rises i (listed t) law.numbers)
     where
       without : List Slot → List Slot
       without ss = instead_where (is_inst i) (λ s. []) ss

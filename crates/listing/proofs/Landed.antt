@@ -36,23 +36,23 @@ module _ (t : Tables) (b : Block) (old : Ends Block) (bs : List BlockNode) (e : 
   pub block_appended : inserted_block b (program_of t) ≡ false → bs ≡ inserted_table block_place block_links t.blocks old.last None b → Inserts block_place block_links t.blocks old b old.last None bs e → Becomes t (after_blocks t bs e) (append_block b (listed t))
   block_appended fresh table chains =
       let law = sound_out h in
-      becomes (appended t b old bs e law.wired (block_missing t b fresh) eo table chains) (append_block_rises b (listed t) law.rising)
+      becomes (appended t b old bs e law.wired (block_missing t b fresh) eo table chains) (append_block_rises b (listed t) law.numbers)
 
   pub block_inserted : (at : Block) → inserted_block at (program_of t) ≡ true → inserted_block b (program_of t) ≡ false → bs ≡ inserted_table block_place block_links t.blocks (read_at block_links.prev_of t.blocks at.0) (Some at) b → Inserts block_place block_links t.blocks old b (read_at block_links.prev_of t.blocks at.0) (Some at) bs e → Becomes t (after_blocks t bs e) (insert_block b at (listed t))
   block_inserted at stands fresh table chains =
       let law = sound_out h in
-      becomes (inserted_ahead t b at old bs e law.wired (block_missing t b fresh) (block_stands t at stands) eo table chains) (insert_block_rises b at (listed t) law.rising)
+      becomes (inserted_ahead t b at old bs e law.wired (block_missing t b fresh) (block_stands t at stands) eo table chains) (insert_block_rises b at (listed t) law.numbers)
 
   pub block_inserted_after : (at : Block) → inserted_block at (program_of t) ≡ true → inserted_block b (program_of t) ≡ false → bs ≡ inserted_table block_place block_links t.blocks (Some at) (read_at block_links.next_of t.blocks at.0) b → Inserts block_place block_links t.blocks old b (Some at) (read_at block_links.next_of t.blocks at.0) bs e → Becomes t (after_blocks t bs e) (insert_block_after b at (listed t))
   block_inserted_after at stands fresh table chains =
       let law = sound_out h in
-      becomes (inserted_behind t b at old bs e law.wired (block_missing t b fresh) (block_stands t at stands) eo table chains) (insert_block_after_rises b at (listed t) law.rising)
+      becomes (inserted_behind t b at old bs e law.wired (block_missing t b fresh) (block_stands t at stands) eo table chains) (insert_block_after_rises b at (listed t) law.numbers)
 
   pub block_removed : inserted_block b (program_of t) ≡ true → slots_of b (program_of t) ≡ [] → bs ≡ removed_table block_place block_links t.blocks (read_at block_links.prev_of t.blocks b.0) (read_at block_links.next_of t.blocks b.0) b → Removes block_place block_links t.blocks old b (read_at block_links.prev_of t.blocks b.0) (read_at block_links.next_of t.blocks b.0) bs e → Becomes t (after_blocks t bs e) (remove_block b (listed t))
   block_removed stands empty table chains =
       let law = sound_out h in
       let a = block_at t b law.wired (block_stands t b stands) in
-      becomes (removed t b old bs e law.wired a (sym (slots_at t b a) ∙ empty) eo table chains) (remove_block_rises b (listed t) law.rising)
+      becomes (removed t b old bs e law.wired a (sym (slots_at t b a) ∙ empty) eo table chains) (remove_block_rises b (listed t) law.numbers)
 
 pub all_unlinked : (t : Tables) (n : BlockNode) (bs : List BlockNode) (is : List InstNode) → Sound t → n ≡ only_mark n.cold → bs ≡ replicate (length t.blocks) n → is ≡ replicate (length t.insts) no_inst → (Sound (record { blocks = bs; insts = is; ends = record { first = None; last = None } })) × (program_of (record { blocks = bs; insts = is; ends = record { first = None; last = None } }) ≡ record { lines = []; cold = replicate 256 n.cold })
 all_unlinked t n bs is h bare eb ei =

@@ -16,7 +16,7 @@ use Rattle.listing.proofs.Props.{sound_out}
 use Rattle.listing.proofs.Rises.{program_is_now}
 use Rattle.listing.proofs.Unique.{program_is, sound_from}
 use Rattle.listing.specs.Edits.{with_blocks}
-use Rattle.listing.specs.Lawful.{AllRising, Lawful, Represents, Sound, listed, program_of}
+use Rattle.listing.specs.Lawful.{AllWellNumbered, Lawful, Represents, Sound, listed, program_of}
 
 -- the node with the mark c
 abbrev pub marked : Bool → BlockNode → BlockNode
@@ -51,7 +51,7 @@ cold_marked t u b mark h made =
       last = read_kept (marked mark) last_of (λ n. refl) t.blocks b.0 x.0 ∙ bare.last;
     }) in
     let same : listed v ≡ listed t = program_is rep in
-    let lawful : Lawful v = record { wired = record { blocks_size = size ∙ w.blocks_size; insts_size = w.insts_size; sound = sound_from rep }; rising = subst (λ q. AllRising q) (sym same) law.rising } in
+    let lawful : Lawful v = record { wired = record { blocks_size = size ∙ w.blocks_size; insts_size = w.insts_size; sound = sound_from rep }; numbers = subst (λ q. AllWellNumbered q) (sym same) law.numbers } in
     let list : listed u ≡ listed t = ap listed made ∙ same in
     let cold : marks u.blocks ≡ set (marks t.blocks) b.0 mark = ap (λ (x : Tables). marks x.blocks) made ∙ marks_set mark t.blocks b.0 in
     (subst (λ x. Sound x) (sym made) ∣ lawful ∣₁, program_is_now u (listed t) (set (marks t.blocks) b.0 mark) list cold)

@@ -88,15 +88,16 @@ module _ (sa : List Slot) (i : Inst) (sb : List Slot) where
     fits = λ few h. fit_join sa (slot i n ∷ sb) (fit_front sa sb h) (small (fit_back sa sb h), fit_back sa sb h);
   }
 
-  anew_length : length (insts_in sa ++ (i ∷ insts_in sb)) ≡ 1 + length (sa ++ sb)
-  anew_length = omega (arith, length-append (insts_in sa) (i ∷ insts_in sb), length-append sa sb, length-map sa (λ (s : Slot). s.inst), length-map sb (λ (s : Slot). s.inst))
+  -- how many they are, with the new one
+  pub length_with : length (insts_in sa ++ (i ∷ insts_in sb)) ≡ 1 + length (sa ++ sb)
+  length_with = omega (arith, length-append (insts_in sa) (i ∷ insts_in sb), length-append sa sb, length-map sa (λ (s : Slot). s.inst), length-map sb (λ (s : Slot). s.inst))
 
   -- the whole block, whatever was stored before
   anew_kept : (r : ℕ) → Kept sa i sb (record { slots = (anew sa i sb).slots; writes = r })
   anew_kept r = record {
     insts = insts_tens 10 (insts_in sa ++ (i ∷ insts_in sb));
     rises = λ h. tens_rise 0 10 (insts_in sa ++ (i ∷ insts_in sb)) (omega arith);
-    fits = λ few h. tens_fit 10 (insts_in sa ++ (i ∷ insts_in sb)) (omega (arith, anew_length));
+    fits = λ few h. tens_fit 10 (insts_in sa ++ (i ∷ insts_in sb)) (omega (arith, length_with));
   }
 
   settled_kept : (p : ℕ) (l : Local) (b : Bool) → p ≡ last_number 0 sa → p ≤ seq_ceiling → l.passed ≡ b → LocalKept (p + 200) (p + 2) sb l → Kept sa i sb (settled b p sa i sb l)

@@ -13,7 +13,7 @@ use Rattle.entities.specs.declared.nodes.BlockNode.{BlockNode}
 use Rattle.entities.specs.declared.nodes.InstNode.{InstNode}
 use Rattle.entities.specs.declared.nodes.Tables.{Tables}
 use Rattle.listing.proofs.Found.{block_apart, inst_apart}
-use Rattle.listing.specs.Lawful.{AllFilled, AllRising, BareBlock, BareInst, Filled, Held, Lawful, Represents, Rising, Sound, Wired, listed}
+use Rattle.listing.specs.Lawful.{AllFilled, AllWellNumbered, BareBlock, BareInst, Filled, Fitting, Held, Lawful, Represents, Rising, Sound, WellNumbered, Wired, listed}
 
 numbers : IsSet ℕ
 numbers = hedberg (λ a b. elim (cases_eq a b) [ inl e ↦ yes e | inr h ↦ no h ])
@@ -34,6 +34,10 @@ held_prop t b (s ∷ ss) x y = λ i. (blocks_set _ _ x.0 y.0 i, seqs_set _ _ x.1
 rising_prop : (n : ℕ) (ss : List Slot) → IsProp (Rising n ss)
 rising_prop n [] x y = refl
 rising_prop n (s ∷ ss) x y = λ i. (le_prop x.0 y.0 i, rising_prop s.seq ss x.1 y.1 i)
+
+fitting_prop : (ss : List Slot) → IsProp (Fitting ss)
+fitting_prop [] x y = refl
+fitting_prop (s ∷ ss) x y = λ i. (le_prop x.0 y.0 i, fitting_prop ss x.1 y.1 i)
 
 filled_prop : (v : Tables) (l : Line) → IsProp (Filled v l)
 filled_prop v l x y = λ i. record {
@@ -68,9 +72,12 @@ represents_prop v p x y = λ i. record {
   bare_insts = λ b m. bare_inst_prop v.insts b (x.bare_insts b m) (y.bare_insts b m) i;
 }
 
-all_rising_prop : (p : List Line) → IsProp (AllRising p)
-all_rising_prop [] x y = refl
-all_rising_prop (l ∷ ls) x y = λ i. (rising_prop 0 l.slots x.0 y.0 i, all_rising_prop ls x.1 y.1 i)
+well_numbered_prop : (ss : List Slot) → IsProp (WellNumbered ss)
+well_numbered_prop ss x y = λ i. record { rising = rising_prop 0 ss x.rising y.rising i; fit = fitting_prop ss x.fit y.fit i }
+
+numbers_prop : (p : List Line) → IsProp (AllWellNumbered p)
+numbers_prop [] x y = refl
+numbers_prop (l ∷ ls) x y = λ i. (well_numbered_prop l.slots x.0 y.0 i, numbers_prop ls x.1 y.1 i)
 
 wired_prop : (t : Tables) → IsProp (Wired t)
 wired_prop t x y = λ i. record {
@@ -80,7 +87,7 @@ wired_prop t x y = λ i. record {
 }
 
 pub lawful_prop : (t : Tables) → IsProp (Lawful t)
-lawful_prop t x y = λ i. record { wired = wired_prop t x.wired y.wired i; rising = all_rising_prop (listed t) x.rising y.rising i }
+lawful_prop t x y = λ i. record { wired = wired_prop t x.wired y.wired i; numbers = numbers_prop (listed t) x.numbers y.numbers i }
 
 pub sound_out : {t : Tables} → Sound t → Lawful t
 sound_out {t} h = ∥∥₁_elim h (lawful_prop t) (λ m. m)

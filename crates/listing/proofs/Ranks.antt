@@ -19,7 +19,7 @@ use Rattle.listing.proofs.Props.{sound_out}
 use Rattle.listing.proofs.Questions.{inst_reads, of_block_at, of_block_none}
 use Rattle.listing.proofs.Rises.{rising_at}
 use Rattle.listing.specs.Edits.{InstIn}
-use Rattle.listing.specs.Lawful.{AllFilled, AllRising, Held, Lawful, Rising, Sound, listed, program_of}
+use Rattle.listing.specs.Lawful.{AllFilled, AllWellNumbered, Held, Lawful, Rising, Sound, listed, program_of}
 
 -- ---- numbers that climb along a list
 
@@ -114,7 +114,7 @@ module _ (t : Tables) (law : Lawful t) where
         | inl m ↦ subst (λ ss. Climbs (λ a. point_seq a (program_of t)) 0 (map inst_point (insts_in ss))) (sym (of_block_none b (λ l. l.slots) [] (listed t) m)) tt
         | inr f ↦
             let line = (filled_right t f.ahead (f.it ∷ f.behind) (subst (λ q. AllFilled t q) f.is law.wired.sound.lines)).0 in
-            let rising = rising_at f.ahead f.it f.behind (subst (λ q. AllRising q) f.is law.rising) in
+            let rising = (rising_at f.ahead f.it f.behind (subst (λ q. AllWellNumbered q) f.is law.numbers)).rising in
             let slots : slots_of b (program_of t) ≡ f.it.slots = ap (of_block b (λ l. l.slots) []) f.is ∙ of_block_at b (λ l. l.slots) [] f.ahead f.it f.behind f.clear f.here in
             subst (λ ss. Climbs (λ a. point_seq a (program_of t)) 0 (map inst_point (insts_in ss))) (sym slots) (climbing f.it.block 0 f.it.slots line.held rising)
       ]

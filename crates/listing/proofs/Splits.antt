@@ -234,7 +234,7 @@ module _ (t : Tables) (nb b : Block) (i : Inst) (h : Sound t) (stands : inst_blo
           (table ∙ ap (λ k. cut_table inst_place inst_links t1.insts p k) (sym opened.here))
           (subst (λ k. Cuts inst_place inst_links t1.insts k is) (sym opened.here) chains) made_so in
           let edited : Edited t (with_insts u js) (split_block nb i (listed t)) = record { wired = done.wired; list = done.list ∙ sym opened.list; cold = done.cold ∙ ap (λ (x : Program). x.cold) made.program } in
-          becomes edited (split_block_rises nb i (listed t) (sound_out h).rising)
+          becomes edited (split_block_rises nb i (listed t) (sound_out h).numbers)
 
 -- the writes of the cut, one behind the other
 pub cut_written : (t : Tables) (e o : Ends Inst) (p : Option Inst) (nb : Block) (i : Inst) (b : Block) (is : List InstNode) (b1 b2 : List BlockNode) → e ≡ ends_of t.blocks b → p ≡ read_at inst_links.prev_of t.insts i.0 → is ≡ cut_table inst_place inst_links t.insts (read_at inst_links.prev_of t.insts i.0) i → o ≡ ends_ahead e p → b1 ≡ alter t.blocks b.0 (λ n. with_inst_ends n o) → b2 ≡ alter b1 nb.0 (λ n. with_inst_ends n (record { first = Some i; last = e.last })) → ◌≡◌ {A = Tables} (record { blocks = b2; insts = is; ends = t.ends }) (cut_off t (ends_of t.blocks b) (read_at inst_links.prev_of t.insts i.0) nb i b)

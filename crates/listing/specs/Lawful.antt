@@ -63,7 +63,7 @@ pub record Represents (t : Tables) (ls : List Line) : Type 0 where
   pub bare_blocks : (b : Block) → Misses (Some b) (blocks_of ls) → BareBlock t.blocks b
   pub bare_insts : (i : Inst) → Misses (Some i) (insts_of ls) → BareInst t.insts i
 
--- ---- rising numbers: a fact of the list alone
+-- ---- the numbers of a block: a fact of the list alone
 
 -- the numbers rise strictly, the first above n
 abbrev pub Rising : ℕ → List Slot → Type 0
@@ -75,10 +75,15 @@ abbrev pub Fitting : List Slot → Type 0
 Fitting [] = Unit {0}
 Fitting (s ∷ ss) = (s.seq < 2 ^ 32) × Fitting ss
 
--- in every line they rise from above 0, the number of the block itself
-abbrev pub AllRising : List Line → Type 0
-AllRising [] = Unit {0}
-AllRising (l ∷ ls) = Rising 0 l.slots × AllRising ls
+-- they rise from above 0, the number of the block itself, and fit
+pub record WellNumbered (ss : List Slot) : Type 0 where
+  pub rising : Rising 0 ss
+  pub fit : Fitting ss
+
+-- those of every line
+abbrev pub AllWellNumbered : List Line → Type 0
+AllWellNumbered [] = Unit {0}
+AllWellNumbered (l ∷ ls) = WellNumbered l.slots × AllWellNumbered ls
 
 -- ---- what a layout keeps
 
@@ -90,7 +95,7 @@ pub record Wired (t : Tables) : Type 0 where
 
 pub record Lawful (t : Tables) : Type 0 where
   pub wired : Wired t
-  pub rising : AllRising (listed t)
+  pub numbers : AllWellNumbered (listed t)
 
 -- Lawful, with its proof forgotten: a type's invariant may have one proof at most
 abbrev pub Sound : Tables → Type 0
