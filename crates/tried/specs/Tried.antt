@@ -1,14 +1,20 @@
--- The tried cases: what the rules make of a program that holds one block. Assumes nothing.
-use Rattle.std.specs.Prelude.{◌≡◌, ℕ, zero, suc, ◌+◌, false, List, [], ◌∷◌, map, replicate, None}
+-- The tried cases: what the rules make of a program that holds one block or none. Assumes nothing.
+use Rattle.std.specs.Prelude.{◌≡◌, ℕ, zero, suc, ◌+◌, false, List, [], ◌∷◌, map, replicate, Some, None}
 use Rattle.entities.specs.declared.Block.{Block}
 use Rattle.entities.specs.declared.Inst.{Inst}
 use Rattle.entities.specs.declared.progpoint.ProgramPoint.TheVariants.{Inst as inst_point, Block as block_point}
 use Rattle.std.specs.declared.cmp.Ordering.TheVariants.{Less}
 use Rattle.entities.specs.Numbering.{last_number, midpoint}
-use Rattle.entities.specs.Program.{Slot, Program, slot}
+use Rattle.entities.specs.Program.{Slot, Program, slot, no_program}
 use Rattle.entities.specs.Reading.{slots_of}
-use Rattle.faults.specs.Refusals.{accepted}
+use Rattle.faults.specs.declared.Entity.TheVariants.{Block as the_block}
+use Rattle.faults.specs.declared.Layer.TheVariants.{Layout as by_layout, Cursor as by_cursor}
+use Rattle.faults.specs.Refusals.{Refusal, accepted, refused}
 use Rattle.faults.specs.Rules.{Ruled, append_inst_rule, insert_inst_rule, pp_cmp_rule}
+use Rattle.cursor.specs.declared.CursorPosition.{CursorPosition}
+use Rattle.cursor.specs.declared.CursorPosition.TheVariants.{Nowhere, At}
+use Rattle.cursor_faults.specs.Moves.{Moved, next_block_rule, goto_first_inst_rule}
+use Rattle.cursor_faults.specs.Edits.{replace_inst_rule}
 
 -- the instruction, the block with this number
 abbrev pub i : ℕ → Inst
@@ -58,6 +64,10 @@ four = insert_inst_rule (i 4) (i 3) three
 abbrev pub at_ceiling : Ruled
 at_ceiling = append_inst_rule (i 1) (b 0) (holding (slot (i 0) 4294967093 ∷ []))
 
+-- a goto of a cursor at `at` that is refused, and leaves it there
+abbrev pub stays : Refusal → (at : CursorPosition) → Moved (Unit {0})
+stays r at = record { answer = refused r; place = at }
+
 pub record Tried : Type 0 where
   -- between 10 and 20 comes 15
   pub halfway : insert_inst_rule (i 2) (i 1) (holding (slot (i 0) 10 ∷ slot (i 1) 20 ∷ [])) ≡ wrote 1 (holding (slot (i 0) 10 ∷ slot (i 2) 15 ∷ slot (i 1) 20 ∷ []))
@@ -79,3 +89,11 @@ pub record Tried : Type 0 where
   pub above_ceiling : append_inst_rule (i 2) (b 0) at_ceiling.after ≡ wrote 3 (holding (slot (i 0) 10 ∷ slot (i 1) 20 ∷ slot (i 2) 30 ∷ []))
   -- a block point against its first instruction is Less
   pub block_first : pp_cmp_rule (block_point (b 0)) (inst_point (i 0)) lone ≡ accepted Less
+  -- where there is no block, a block step from Nowhere answers none and leads to Nowhere
+  pub no_block : next_block_rule Nowhere no_program ≡ record { answer = accepted None; place = Nowhere }
+  -- a block without instructions has no first one to go to: the cursor refuses
+  pub no_first_inst : (at : CursorPosition) → goto_first_inst_rule (b 0) at (holding []) ≡ stays (record { number = 8; layer = by_cursor; entity = Some (the_block (b 0)) }) at
+  -- a block that is not inserted is not gone to: the layout refuses
+  pub not_inserted : (at : CursorPosition) → goto_first_inst_rule (b 1) at (holding []) ≡ stays (record { number = 5; layer = by_layout; entity = Some (the_block (b 1)) }) at
+  -- an instruction is replaced by itself: it is put in anew, with one write
+  pub by_itself : replace_inst_rule (i 1) (At (i 1)) (holding (slot (i 0) 10 ∷ slot (i 1) 12 ∷ slot (i 2) 20 ∷ [])) ≡ record { answer = accepted (Some (i 1), 1); after = holding (slot (i 0) 10 ∷ slot (i 1) 15 ∷ slot (i 2) 20 ∷ []); place = At (i 2) }

@@ -7,8 +7,8 @@ ghost use Rattle.tried.specs.Tried.{Tried};
 
 /// How many cases there are. The contract says what they are, and that the rules give what each of them says.
 pub fn tried_cases() -> u32
-    ensures count { result ≡ 8 }
+    ensures count { result ≡ 12 }
     ensures cases { Tried }
 {
-    8
+    12
 }

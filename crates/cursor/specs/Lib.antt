@@ -1,0 +1,4 @@
+pub mod Words
+pub mod SourceLocs
+pub mod Kinds
+pub mod Positions
