@@ -1,0 +1,19 @@
+//! Tests of cursors by `replay`, by the calls themselves, and of `same_program`, most of them tables of cases. Each expected value follows
+//! from the rules in docs/RULES.md, and none from our own output.
+
+#![tactic(auto)]
+
+#[cfg(test)]
+mod edits;
+#[cfg(test)]
+mod kinds;
+#[cfg(test)]
+mod moves;
+#[cfg(test)]
+mod plain;
+#[cfg(test)]
+mod refusals;
+#[cfg(test)]
+mod runs;
+#[cfg(test)]
+mod same;
