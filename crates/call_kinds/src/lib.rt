@@ -4,7 +4,7 @@
 
 ghost use Rattle.std.specs.Prelude.{◌≡◌};
 ghost use Rattle.calls.specs.Replies.{replied, MovedBy, WorkedBy};
-ghost use Rattle.calls.specs.Calls.{edit_rule, goto_rule, step_rule, position_reply, cursor_edit_rule, cursor_rule};
+ghost use Rattle.calls.specs.Calls.{edit_rule, goto_rule, step_rule, position_reply, cursor_edit_rule, cursor_rule, LayoutStays, CursorStays};
 ghost use Rattle.cursor_faults.specs.Moves.{Goes, ComesBack};
 ghost use Rattle.faults.specs.Refusals.{SameIfRefused};
 ghost use Rattle.faults.specs.Rules.{Follows};
@@ -145,6 +145,8 @@ pub fn call_cursor<C: Cursor + Drop>(
     ensures rule { WorkedBy (cursor_rule call (C.pos cursor.old) (program layout.old)) result (program layout.new) (C.pos cursor.new) }
     ensures layout { SameIfRefused result layout.old layout.new }
     ensures cursor { SameIfRefused result cursor.old cursor.new }
+    ensures layout_stays { LayoutStays call layout.old layout.new }
+    ensures cursor_stays { CursorStays call cursor.old cursor.new }
 {
     match call {
         CursorCall::Goto(to) => {

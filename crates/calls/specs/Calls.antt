@@ -1,5 +1,5 @@
 -- The rule of each call. Assumes nothing.
-use Rattle.std.specs.Prelude.{ℕ, Some, None, Option}
+use Rattle.std.specs.Prelude.{◌≡◌, ℕ, Some, Option}
 use Rattle.entities.specs.declared.Inst.{Inst}
 use Rattle.entities.specs.Program.{Program, no_program}
 use Rattle.faults.specs.Refusals.{Told, accepted}
@@ -94,3 +94,25 @@ cursor_rule (call.Position q) at p = record { answer = position_reply q at p; af
 cursor_rule (call.Edit e) at p = cursor_edit_rule e at p
 cursor_rule (call.SetPosition to) at p = record { answer = accepted done; after = p; place = to }
 cursor_rule (call.AtPosition to) at p = record { answer = accepted done; after = p; place = to }
+
+-- ---- what a call that is no edit spares
+
+-- the layout stays the very same value, but for an edit
+abbrev pub LayoutStays : {L : Type 0} → CursorCall → (before after : L) → Type 0
+LayoutStays (call.Goto g) before after = after ≡ before
+LayoutStays (call.At g) before after = after ≡ before
+LayoutStays (call.Step s) before after = after ≡ before
+LayoutStays (call.Position q) before after = after ≡ before
+LayoutStays (call.Edit e) before after = Unit {0}
+LayoutStays (call.SetPosition to) before after = after ≡ before
+LayoutStays (call.AtPosition to) before after = after ≡ before
+
+-- the cursor stays the very same value, where its position is asked for
+abbrev pub CursorStays : {C : Type 0} → CursorCall → (before after : C) → Type 0
+CursorStays (call.Goto g) before after = Unit {0}
+CursorStays (call.At g) before after = Unit {0}
+CursorStays (call.Step s) before after = Unit {0}
+CursorStays (call.Position q) before after = after ≡ before
+CursorStays (call.Edit e) before after = Unit {0}
+CursorStays (call.SetPosition to) before after = Unit {0}
+CursorStays (call.AtPosition to) before after = Unit {0}

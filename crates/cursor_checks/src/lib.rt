@@ -1,5 +1,5 @@
-//! Tests of cursors by `replay`, by the calls themselves, and of `same_program`, most of them tables of cases. Each expected value follows
-//! from the rules in docs/RULES.md, and none from our own output.
+//! Tests of cursors by `replay`, by the calls themselves, and of `same_program` and `first_parting`, most of them tables of cases. Each
+//! expected value follows from the rules in docs/RULES.md, and none from our own output.
 
 #![tactic(auto)]
 
@@ -9,6 +9,8 @@ mod edits;
 mod kinds;
 #[cfg(test)]
 mod moves;
+#[cfg(test)]
+mod partings;
 #[cfg(test)]
 mod plain;
 #[cfg(test)]

@@ -12,8 +12,8 @@ use entities::progpoint::ProgramPoint;
 use entities::{Block, Inst};
 use layout::Layout;
 
-// The walk that `built` has, by edits that give other numbers.
-const OTHERWISE: &[Make] = &[
+/// The walk that `built` has, by edits that give other numbers.
+pub const OTHERWISE: &[Make] = &[
     AppendBlock(9),
     InsertBlock(2, 9),
     InsertBlockAfter(0, 2),
@@ -54,7 +54,8 @@ fn is_other(a: &Layout, b: &Layout) -> bool {
     !order::same_program(a, b) && !order::same_program(b, a)
 }
 
-fn point_of(thing: Thing) -> ProgramPoint {
+/// The point of the walk that this is.
+pub fn point_of(thing: Thing) -> ProgramPoint {
     match thing {
         InBlock(b) => ProgramPoint::Block(Block::from_u32(b)),
         AtInst(i) => ProgramPoint::Inst(Inst::from_u32(i)),

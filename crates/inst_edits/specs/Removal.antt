@@ -12,7 +12,7 @@ use Rattle.listing.specs.Edits.{with_insts}
 use Rattle.listing.specs.Lawful.{Sound, program_of}
 
 -- i was taken out of the chain of its block b in the sound tables t, which made u: the chain had the ends `old` and now has the ends e
-pub record TakenOut (t u : Tables) (i : Inst) (b : Block) (e : Ends Inst) : Type 0 where
+pub record LeftOut (t u : Tables) (i : Inst) (b : Block) (e : Ends Inst) : Type 0 where
   pub old : Ends Inst
   pub sound : Sound t
   pub stands : inst_block i (program_of t) ≡ Some b

@@ -12,7 +12,7 @@ ghost use Rattle.listing.specs.Edits.{Becomes};
 ghost use Rattle.listing.specs.Held.{program};
 ghost use Rattle.listing.specs.Lawful.{Sound, listed, program_of};
 ghost use Rattle.inst_edits.specs.Put.{Appended, Inserted, LinkedBefore, LinkedLast, SomeLinked};
-ghost use Rattle.inst_edits.specs.Removal.{TakenOut};
+ghost use Rattle.inst_edits.specs.Removal.{LeftOut};
 
 use chain::Ends;
 use entities::nodes::Tables;
@@ -102,7 +102,7 @@ fn number_linked(tables: &mut Tables, inst: Inst, block: Block) -> u32
 fn close_up(tables: &mut Tables, inst: Inst, block: Block, ends: Ends<Inst>, name: Option<Block>)
     requires inst { inst.0 < length tables.old.insts }
     requires block { block.0 < length tables.old.blocks }
-    ensures { (t : TablesOf) → TakenOut t tables.old inst block ends → name ≡ None → Becomes t tables.new (remove_inst inst (listed t)) }
+    ensures { (t : TablesOf) → LeftOut t tables.old inst block ends → name ≡ None → Becomes t tables.new (remove_inst inst (listed t)) }
 {
     fields::set_inst_ends(&mut tables.blocks, block, ends);
     fields::set_block(&mut tables.insts, inst, name);

@@ -1,5 +1,5 @@
 -- What is inserted in a layout is in range. Assumes nothing.
-use Rattle.std.proofs.Common.{◌≡◌, ◌<◌, true, false, ◌++◌, ◌∷◌, length, sym, subst, inl, inr}
+use Rattle.std.proofs.Common.{◌≡◌, ◌<◌, true, false, subst, inl, inr}
 use Rattle.std.proofs.lemmas.Bool.{both_ways, cases_Bool, lt-ltb}
 use Rattle.entities.specs.Nodes.{block_links, block_place, ends_of, inst_links, inst_place}
 use Rattle.entities.specs.Program.{blocks_of, insts_in, insts_of}

@@ -2,10 +2,11 @@
 
 ghost use Rattle.std.specs.Prelude.{◌≡◌, is_some};
 ghost use Rattle.entities.specs.Reading.{inserted_block, inserted_inst, entry_block, last_block, prev_block, next_block, is_cold, slots_of, first_inst, last_inst, exactly_one, inst_block, next_inst, prev_inst, shown_seq};
-ghost use Rattle.layout.specs.Program.{program};
+ghost use Rattle.layout.specs.Program.{program, tables};
 
 use crate::Layout;
-use entities::nodes::SequenceNumber;
+use chain::Ends;
+use entities::nodes::{BlockNode, InstNode, SequenceNumber};
 use entities::{Block, Inst};
 
 impl Layout {
@@ -14,6 +15,27 @@ impl Layout {
         ensures { result ≡ 256 }
     {
         self.listing.tables.blocks.len()
+    }
+
+    /// The nodes of the blocks, one for each number, to be read.
+    pub fn block_nodes(&self) -> &[BlockNode]
+        ensures { result.now ≡ (tables self.now).blocks }
+    {
+        &self.listing.tables.blocks
+    }
+
+    /// The nodes of the instructions, one for each number, to be read.
+    pub fn inst_nodes(&self) -> &[InstNode]
+        ensures { result.now ≡ (tables self.now).insts }
+    {
+        &self.listing.tables.insts
+    }
+
+    /// The first and the last block, as the tables hold them.
+    pub fn block_ends(&self) -> Ends<Block>
+        ensures { result ≡ (tables self.now).ends }
+    {
+        self.listing.tables.ends
     }
 
     /// Is `block` inserted?

@@ -2,6 +2,7 @@
 use Rattle.std.proofs.Common.{◌≡◌, ℕ, Bool, true, false, cond, List, [], ◌∷◌, is_some, Some, None, Option, sym, refl, ap, ◌∙◌, subst, arith, Ordering, nat_cmp}
 use Rattle.std.proofs.lemmas.Bool.{eqb-true}
 use Rattle.std.proofs.lemmas.Option.{same_Some}
+use Rattle.std.specs.List.{AllByRecursion}
 use Rattle.entities.specs.Laws.{walk}
 use Rattle.entities.specs.Program.{Program}
 use Rattle.entities.specs.Reading.{Stands, inserted_point, inst_block, point_block, point_seq, walk_of}
@@ -18,7 +19,7 @@ use Rattle.listing.proofs.Questions.{inst_reads}
 use Rattle.listing.proofs.Ranks.{ranked}
 use Rattle.listing.specs.Lawful.{Sound, listed, program_of}
 use Rattle.order.proofs.Bare.{same_inserted_point, same_point_block, same_walk_of}
-use Rattle.order.specs.Order.{Each, RankAlike}
+use Rattle.order.specs.Order.{RankAlike}
 
 -- ---- where no question refuses
 
@@ -26,7 +27,7 @@ first_yes : (q : Bool) (r : Refusal) (rest : Option Refusal) → cond q rest (So
 first_yes true r rest e = (refl, e)
 first_yes false r rest e = absurd (let z : ◌≡◌ {A = ℕ} 0 1 = cc in omega arith)
 
-each_yes : (qs : List Question) → first_no qs ≡ None → Each (λ q. q.yes ≡ true) qs
+each_yes : (qs : List Question) → first_no qs ≡ None → AllByRecursion (λ q. q.yes ≡ true) qs
 each_yes [] e = tt
 each_yes (q ∷ qs) e = let a = first_yes q.yes q.no (first_no qs) e in (a.0, each_yes qs a.1)
 

@@ -1,9 +1,10 @@
 -- What a walk gives, asked again and again, and what holds of each of a list. Assumes nothing.
 use Rattle.std.proofs.Common.{◌≡◌, ℕ, List, [], ◌∷◌, ◌++◌, reverse, Some, None, Option, sym, refl, ap, ◌∙◌, subst, arith}
 use Rattle.std.proofs.lemmas.List.{reverse-append}
+use Rattle.std.specs.List.{AllByRecursion}
 use lib.Seq.{append_snoc}
 use Rattle.chain.specs.Chain.{Gives}
-use Rattle.order.specs.Order.{Answered, Each, GivesAll, Leads, ThenNone}
+use Rattle.order.specs.Order.{Answered, GivesAll, ThenNone}
 use Rattle.walks.specs.Walks.{GivesFirst, GivesLast}
 
 -- ---- from the front
@@ -37,16 +38,16 @@ gives_last left xs e = subst (λ q. GivesAll GivesLast left (reverse q)) e (λ r
 
 -- ---- by what was given last
 
-pub leads : {K : Type 0} (link next : K → Option K) → ((k : K) → link k ≡ next k) → (o : Option K) (xs : List K) → Gives link o xs → Leads next o xs
+pub leads : {K : Type 0} (link next : K → Option K) → ((k : K) → link k ≡ next k) → (o : Option K) (xs : List K) → Gives link o xs → Gives next o xs
 leads link next e o [] g = g
 leads link next e o (x ∷ xs) g = (g.0, leads link next e (next x) xs (subst (λ q. Gives link q xs) (e x) g.1))
 
 -- ---- of each
 
-each_on : {A : Type 0} (P : A → Type 0) (all : List A) → ((xs : List A) (x : A) (ys : List A) → all ≡ xs ++ (x ∷ ys) → P x) → (ahead ls : List A) → all ≡ ahead ++ ls → Each P ls
+each_on : {A : Type 0} (P : A → Type 0) (all : List A) → ((xs : List A) (x : A) (ys : List A) → all ≡ xs ++ (x ∷ ys) → P x) → (ahead ls : List A) → all ≡ ahead ++ ls → AllByRecursion P ls
 each_on P all f ahead [] e = tt
 each_on P all f ahead (l ∷ ls) e = (f ahead l ls e, each_on P all f (ahead ++ (l ∷ [])) ls (e ∙ sym (append_snoc ahead l ls)))
 
 -- what holds of each, wherever it stands, holds of each
-pub each : {A : Type 0} (P : A → Type 0) (all : List A) → ((xs : List A) (x : A) (ys : List A) → all ≡ xs ++ (x ∷ ys) → P x) → Each P all
+pub each : {A : Type 0} (P : A → Type 0) (all : List A) → ((xs : List A) (x : A) (ys : List A) → all ≡ xs ++ (x ∷ ys) → P x) → AllByRecursion P all
 each P all f = each_on P all f [] all refl

@@ -21,7 +21,7 @@ abbrev pub steps_by : {S K : Type 0} → (S → List K) → S → Option K → S
 steps_by left s r t = GivesFirst r (left s) (left t)
 
 -- calls give the front of what was left
-yielded : {S K : Type 0} (left : S → List K) (s : S) (xs : List K) (t : S) → Yields (steps_by left) s xs t → left s ≡ xs ++ left t
+pub yielded : {S K : Type 0} (left : S → List K) (s : S) (xs : List K) (t : S) → Yields (steps_by left) s xs t → left s ≡ xs ++ left t
 yielded left s [] t y = ap left y
 yielded left s (x ∷ xs) t y = y.1 ∙ ap (λ r. x ∷ r) (yielded left y.0 xs t y.2)
 

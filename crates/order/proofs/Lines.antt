@@ -1,5 +1,6 @@
 -- What a layout says of a line of its list, asked for the line's block and for its instructions. Assumes nothing.
 use Rattle.std.proofs.Common.{◌≡◌, true, cond, List, [], ◌∷◌, ◌++◌, is_some, Some, None, sym, refl, ap, ◌∙◌, subst}
+use Rattle.std.specs.List.{AllByRecursion}
 use Rattle.entities.specs.Program.{Line, Slot, insts_in}
 use Rattle.entities.specs.Reading.{block_insts, inserted_inst, inst_seq, of_block, shown_seq, slots_of}
 use Rattle.entities.specs.declared.Block.{Block}
@@ -7,7 +8,6 @@ use Rattle.entities.specs.declared.nodes.Tables.{Tables}
 use Rattle.listing.proofs.InstEdits.{other_ahead, this_line}
 use Rattle.listing.proofs.Questions.{inst_reads, of_block_at}
 use Rattle.listing.specs.Lawful.{Held, Represents, Wired, listed, program_of}
-use Rattle.order.specs.Order.{Each}
 
 module _ (t : Tables) (law : Wired t) (xs : List Line) (l : Line) (ys : List Line) (is : listed t ≡ xs ++ (l ∷ ys)) where
   rep : Represents t (xs ++ (l ∷ ys))
@@ -23,7 +23,7 @@ module _ (t : Tables) (law : Wired t) (xs : List Line) (l : Line) (ys : List Lin
   own_held = (this_line t xs l ys rep).held
 
 -- each slot shows its number
-pub numbers_shown : (t : Tables) (law : Wired t) (b : Block) (ss : List Slot) → Held t.insts b ss → Each (λ s. shown_seq s.inst (program_of t) ≡ Some s.seq) ss
+pub numbers_shown : (t : Tables) (law : Wired t) (b : Block) (ss : List Slot) → Held t.insts b ss → AllByRecursion (λ s. shown_seq s.inst (program_of t) ≡ Some s.seq) ss
 numbers_shown t law b [] h = tt
 numbers_shown t law b (s ∷ ss) h =
     let r = inst_reads t s.inst law in

@@ -1,6 +1,7 @@
 -- Walk and numbers of every layout stand in one order. Assumes nothing.
 use Rattle.std.proofs.Common.{◌≡◌, true, ◌∷◌, ◌++◌, get_or, reverse, Some, Option, sym, refl, ap, ◌∙◌, subst, Ordering, nat_cmp}
 use Rattle.std.proofs.lemmas.Option.{same_Some}
+use Rattle.std.specs.List.{AllByRecursion}
 use Rattle.chain.proofs.Keys.{misses_both}
 use Rattle.chain.proofs.Walks.{chain_walked}
 use Rattle.chain.specs.Chain.{Gives}
@@ -24,7 +25,7 @@ use Rattle.listing.specs.Lawful.{Wired}
 use Rattle.order.proofs.Asking.{each, gives_first, gives_last, leads}
 use Rattle.order.proofs.Lines.{numbers_shown, own_held, own_insts}
 use Rattle.order.proofs.Points.{all_yes, insts_named, of_walk}
-use Rattle.order.specs.Order.{Each, GivesAll, Mirror, Names, OneOf, OneOrder, Ranks, WalkIsTheList}
+use Rattle.order.specs.Order.{GivesAll, Mirror, Names, OneOf, OneOrder, Ranks, WalkIsTheList}
 use Rattle.walks.specs.Walks.{GivesFirst, GivesLast}
 
 -- ---- the four parts, of a layout: its tables are sound
@@ -45,7 +46,7 @@ module _ (l : Layout) where
     once = law.sound.blocks.distinct;
     inserted = λ b. refl;
     insts = each (λ line. GivesAll GivesFirst (block_insts line.block p) (insts_in line.slots)) p.lines (λ xs line ys is. gives_first (block_insts line.block p) (insts_in line.slots) (own_insts t law xs line ys is));
-    numbers = each (λ line. Each (λ s. shown_seq s.inst p ≡ Some s.seq) line.slots) p.lines (λ xs line ys is. numbers_shown t law line.block line.slots (own_held t law xs line ys is));
+    numbers = each (λ line. AllByRecursion (λ s. shown_seq s.inst p ≡ Some s.seq) line.slots) p.lines (λ xs line ys is. numbers_shown t law line.block line.slots (own_held t law xs line ys is));
     marks = refl;
   }
 

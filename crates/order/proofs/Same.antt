@@ -1,7 +1,7 @@
 -- Two layouts have one walk exactly where they have the same blocks, each with the same instructions, and then they rank alike.
 -- Assumes nothing.
 use Rattle.std.proofs.Common.{◌≡◌, suc, List, [], ◌∷◌, ◌++◌, map, sym, refl, ap, ◌∙◌, arith}
-use Rattle.std.specs.List.{All}
+use Rattle.std.specs.List.{All, flat_map}
 use lib.Seq.{append_snoc}
 use Rattle.entities.specs.Laws.{walk}
 use Rattle.entities.specs.Program.{Line, Program, blocks_of}
@@ -21,32 +21,33 @@ use Rattle.order.proofs.Lines.{own_insts}
 use Rattle.order.proofs.Comparing.{blocks_ended}
 
 -- the walks of these blocks, one behind the other
-walks_of : Program → List Block → List ProgramPoint
-walks_of p [] = []
-walks_of p (b ∷ bs) = walk_of b p ++ walks_of p bs
+abbrev walks_of : Program → List Block → List ProgramPoint
+walks_of p bs = flat_map (λ b. walk_of b p) bs
 
 -- the walk goes by the blocks alone, and what each is asked for
 by_blocks : (t : Tables) → Wired t → (ahead ls : List Line) → listed t ≡ ahead ++ ls → walk ls ≡ walks_of (program_of t) (blocks_of ls)
-unfolding walks_of
 by_blocks t law ahead [] e = refl
 by_blocks t law ahead (l ∷ ls) e =
     ap (λ is. (block_point l.block ∷ map inst_point is) ++ walk ls) (sym (own_insts t law ahead l ls e))
     ∙ ap (λ r. walk_of l.block (program_of t) ++ r) (by_blocks t law (ahead ++ (l ∷ [])) ls (e ∙ sym (append_snoc ahead l ls)))
 
 same_walks : (p q : Program) (bs : List Block) → All (λ b. block_insts b p ≡ block_insts b q) bs → walks_of p bs ≡ walks_of q bs
-unfolding walks_of
 same_walks p q [] f = refl
 same_walks p q (b ∷ bs) f =
     ap (λ is. (block_point b ∷ map inst_point is) ++ walks_of p bs) (f 0 b (omega arith))
     ∙ ap (λ r. walk_of b q ++ r) (same_walks p q bs (λ k d h. f (suc k) d (omega arith)))
 
+-- of a whole layout
+pub walk_by_blocks : (l : Layout) → walk (program l).lines ≡ flat_map (λ b. walk_of b (program l)) (blocks_of (program l).lines)
+walk_by_blocks l = by_blocks l.listing.tables (sound_out l.listing.sound).wired [] (program l).lines refl
+
 module _ (a b : Layout) where
   pub walk_from_blocks : blocks_of (program a).lines ≡ blocks_of (program b).lines → All (λ block. block_insts block (program a) ≡ block_insts block (program b)) (blocks_of (program a).lines) → walk (program a).lines ≡ walk (program b).lines
   walk_from_blocks e f =
-      by_blocks a.listing.tables (sound_out a.listing.sound).wired [] (program a).lines refl
+      walk_by_blocks a
       ∙ same_walks (program a) (program b) (blocks_of (program a).lines) f
       ∙ ap (walks_of (program b)) e
-      ∙ sym (by_blocks b.listing.tables (sound_out b.listing.sound).wired [] (program b).lines refl)
+      ∙ sym (walk_by_blocks b)
 
   pub blocks_from_walk : walk (program a).lines ≡ walk (program b).lines → blocks_of (program a).lines ≡ blocks_of (program b).lines
   blocks_from_walk e = same_blocks (program a) (program b) e

@@ -1,6 +1,7 @@
 -- Walk and numbers of a layout in one order, read from the layout's own answers. Assumes nothing.
 use Rattle.std.specs.Prelude.{◌≡◌, ◌⊎◌, true, List, [], ◌∷◌, ◌++◌, reverse, Some, None, Option}
-use Rattle.chain.specs.Chain.{Distinct, Misses}
+use Rattle.std.specs.List.{AllByRecursion}
+use Rattle.chain.specs.Chain.{Distinct, Gives, Misses}
 use Rattle.entities.specs.declared.Block.{Block}
 use Rattle.entities.specs.declared.Inst.{Inst}
 use Rattle.entities.specs.declared.progpoint.ProgramPoint.{ProgramPoint}
@@ -32,16 +33,6 @@ ThenNone (x ∷ xs) (r ∷ rs) = (r ≡ Some x) × ThenNone xs rs
 abbrev pub GivesAll : {K : Type 0} → (Gives : Option K → List K → List K → Type 0) → (left xs : List K) → Type 0
 GivesAll Gives left xs = (rs : List (Option _)) → Answered Gives left rs → ThenNone xs rs
 
--- from o on, asking `next` of what it gave last gives xs, and then none
-abbrev pub Leads : {K : Type 0} → (next : K → Option K) → Option K → List K → Type 0
-Leads next o [] = o ≡ None
-Leads next o (x ∷ xs) = (o ≡ Some x) × Leads next (next x) xs
-
--- P holds of each line
-abbrev pub Each : {A : Type 0} → (A → Type 0) → List A → Type 0
-Each P [] = Unit {0}
-Each P (x ∷ xs) = P x × Each P xs
-
 -- ---- where an instruction stands: in the line of block b, and nowhere else in the list
 pub record StandsOnce (i : Inst) (b : Block) (ls : List Line) : Type 0 where
   pub lines_ahead : List Line
@@ -66,8 +57,8 @@ pub record WalkIsTheList (l : Layout) (p : Program) : Type 0 where
   pub blocks : GivesAll GivesFirst (blocks_of (program l).lines) (blocks_of p.lines)
   pub once : Distinct (blocks_of p.lines)
   pub inserted : (b : Block) → inserted_block b (program l) ≡ holds block_place b (blocks_of p.lines)
-  pub insts : Each (λ line. GivesAll GivesFirst (block_insts line.block (program l)) (insts_in line.slots)) p.lines
-  pub numbers : Each (λ line. Each (λ s. shown_seq s.inst (program l) ≡ Some s.seq) line.slots) p.lines
+  pub insts : AllByRecursion (λ line. GivesAll GivesFirst (block_insts line.block (program l)) (insts_in line.slots)) p.lines
+  pub numbers : AllByRecursion (λ line. AllByRecursion (λ s. shown_seq s.inst (program l) ≡ Some s.seq) line.slots) p.lines
   pub marks : (program l).cold ≡ p.cold
 
 -- an instruction names a block exactly when it stands in that block's walk, and then it stands there once and nowhere else
@@ -77,8 +68,8 @@ pub record Names (l : Layout) (p : Program) : Type 0 where
 
 -- backward, from the last block by the block ahead, everything comes reversed, and ends
 pub record Mirror (l : Layout) (p : Program) : Type 0 where
-  pub blocks : Leads (λ b. prev_block b (program l)) (last_block (program l)) (reverse (blocks_of p.lines))
-  pub insts : Each (λ line. GivesAll GivesLast (block_insts line.block (program l)) (reverse (insts_in line.slots))) p.lines
+  pub blocks : Gives (λ b. prev_block b (program l)) (last_block (program l)) (reverse (blocks_of p.lines))
+  pub insts : AllByRecursion (λ line. GivesAll GivesLast (block_insts line.block (program l)) (reverse (insts_in line.slots))) p.lines
 
 -- of any two points of one inserted block, `pp_cmp` says Less, Equal or Greater exactly when the first is ahead of, the same as or behind
 -- the second in that block's walk; and one of these it says

@@ -1,7 +1,7 @@
 -- Calls made in turn, one more, in two parts, and with the order at every moment. Assumes nothing.
-use Rattle.std.proofs.Common.{◌≡◌, ℕ, zero, suc, ◌+◌, ◌<◌, ◌≤◌, true, false, cond, List, [], ◌∷◌, ◌++◌, map, length, take, drop, get_or, slice_set, inl, inr, sym, refl, ap, ◌∙◌, subst, arith}
+use Rattle.std.proofs.Common.{◌≡◌, ℕ, zero, suc, ◌+◌, ◌<◌, true, false, cond, List, [], ◌∷◌, ◌++◌, map, length, take, get_or, slice_set, inl, inr, sym, refl, ap, ◌∙◌, subst, arith}
 use Rattle.std.proofs.lemmas.Bool.{cases_Bool, false≢true}
-use Rattle.std.proofs.lemmas.List.{drop-set-lt, length-map, length-set, take_more, take_more_set}
+use Rattle.std.proofs.lemmas.List.{drop-set-lt, take_more, take_more_set}
 use lib.Seq.{append_snoc}
 use Rattle.entities.specs.Program.{Program}
 use Rattle.cursor.specs.declared.CursorPosition.{CursorPosition}

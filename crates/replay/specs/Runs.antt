@@ -12,6 +12,7 @@ use Rattle.calls.specs.declared.Call.TheVariants.{Layout as of_layout, Cursor as
 use Rattle.calls.specs.declared.CallFault.{CallFault}
 use Rattle.calls.specs.declared.CallFault.TheVariants.{Layout as by_layout, Cursor as by_cursor}
 use Rattle.calls.specs.Replies.{call_told}
+use Rattle.calls.specs.Calls.{LayoutStays, CursorStays}
 use Rattle.leading.specs.Leading.{leads}
 use Rattle.order.specs.Order.{OneOrder}
 use Rattle.replay.specs.Histories.{Move, Reached, fits, listed, made, move_of, moves, place_of}
@@ -34,6 +35,16 @@ abbrev pub OthersStay : {C : Type 0} → Call → (before after : List C) → Ty
 OthersStay (of_layout e) before after = after ≡ before
 OthersStay {C} (of_cursor k c) before after = (cursor : C) × (after ≡ slice_set before k cursor)
 
+-- a cursor call that is no edit leaves the layout the very same value
+abbrev pub Untouched : Call → (before after : Layout) → Type 0
+Untouched (of_layout e) before after = Unit {0}
+Untouched (of_cursor k c) before after = LayoutStays c before after
+
+-- a position question leaves its cursor the very same value
+abbrev pub CursorsStay : {C : Type 0} → Call → (before after : C) → Type 0
+CursorsStay (of_layout e) before after = Unit {0}
+CursorsStay (of_cursor k c) before after = CursorStays c before after
+
 -- after an accepted goto, step or cursor edit the cursor is Nowhere or on something inserted
 abbrev pub StandsThen : Call → Outcome → List CursorPosition → Program → Type 0
 StandsThen c (Err f) places p = Unit {0}
@@ -48,6 +59,8 @@ pub record Applied {C : Type 0} (pos : C → CursorPosition) (c : Call) (r : Out
   pub list : program l′ ≡ (made c (program l) (map pos cs)).after
   pub places : map pos cs′ ≡ (made c (program l) (map pos cs)).places
   pub others : OthersStay c cs cs′
+  pub untouched : Untouched c l l′
+  pub cursors_stay : CursorsStay c cs cs′
   pub led : StandsThen c r (map pos cs′) (program l′)
   -- a refusal changes nothing
   pub same_layout : SameIfRefused r l l′

@@ -1,9 +1,3 @@
-pub mod Numerals
-pub mod Prefixes
-pub mod Positions
-pub mod Dots
-pub mod FirstWords
 pub mod Places
 pub mod Rows
 pub mod Written
-pub mod Words

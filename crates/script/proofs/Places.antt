@@ -10,7 +10,7 @@ use Rattle.std.proofs.lemmas.List.{map-append, length-map}
 use Rattle.std.proofs.lemmas.List.Folds.{position_or_len_push}
 use Rattle.std.proofs.lemmas.List.Sums.{prefix_len-le-length}
 use Rattle.std.proofs.lemmas.Map.Text.{hash_map_updates_str}
-use Rattle.script.specs.Args.{texts}
+use Rattle.words.specs.Words.{texts}
 use Rattle.script.specs.Names.{place_of}
 
 module _ (names : List (List ℕ)) (name : List ℕ) (free : place_of name names ≡ None) where

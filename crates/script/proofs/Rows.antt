@@ -1,19 +1,16 @@
 -- What the words of lines say, one line behind the other. Assumes nothing.
-use Rattle.std.proofs.Common.{◌≡◌, ◌≢◌, ◌↔◌, ℕ, ◌+◌, ◌<◌, Bool, ◌||◌, List, [], ◌∷◌, ◌++◌, length, take, get_or, Option, Some, None, Result, Ok, Err, IsErrAnd, Bor, refl, sym, ◌∙◌, ap, subst, zero-add, arith, rules}
-use Rattle.std.specs.List.{list_any, enumerate_from}
+use Rattle.std.proofs.Common.{◌≡◌, ◌≢◌, ◌↔◌, ℕ, ◌+◌, List, [], ◌∷◌, ◌++◌, length, take, get_or, Option, Some, None, Result, Ok, Err, IsErrAnd, refl, sym, ap, subst, arith, rules}
+use Rattle.std.specs.List.{enumerate_from}
 use Rattle.std.specs.Str.Lines.{lines}
 use Rattle.std.proofs.Math.Seq.{take-length}
-use Rattle.std.proofs.lemmas.List.{take_more, get_or-map, length-map}
-use Rattle.std.proofs.lemmas.List.FromFn.{length-enumerate_from, get_or-enumerate_from}
-use Rattle.script.specs.Args.{texts}
-use Rattle.script.specs.Lines.{Said, Says, said_words}
+use Rattle.std.proofs.lemmas.List.{take_more, length-map}
+use Rattle.std.proofs.lemmas.List.FromFn.{length-enumerate_from}
+use Rattle.words.specs.Words.{words_of, rows}
+use Rattle.words.proofs.Rows.{IsLine}
+use Rattle.lines.specs.Lines.{Said, Says, said_words}
 use Rattle.script.specs.declared.texts.What.{What}
 use Rattle.script.specs.declared.texts.What.TheVariants.{NotACall, NumberTooLarge, UnknownCursor, NameTaken, OutOfMemory}
-use Rattle.script.specs.Scripts.{SaysNothing, Content, Adds, ReadsRow, ReadsRows, IsRefused, IsWrong, IsFault, LineTold, RowTold, words_of, rows}
-
-pub any_texts : (t : List ℕ → Bool) (words : List (Bor (List ℕ))) → list_any t (texts words) ≡ list_any (λ (w : Bor (List ℕ)). t w.now) words
-any_texts t [] = refl
-any_texts t (w ∷ words) = ap (λ b. t w.now || b) (any_texts t words)
+use Rattle.script.specs.Scripts.{SaysNothing, Content, Adds, ReadsRow, ReadsRows, IsRefused, IsWrong, IsFault, LineTold, RowTold}
 
 pub says_nothing : (words : List (List ℕ)) → ((l : Said) → ◌≡◌ {A = Option Said} None (Some l) ↔ Says words l) → SaysNothing words
 says_nothing words read l says = let found = (read l).1 says in cc
@@ -47,22 +44,6 @@ wrong_words row old new (Err v) w is wrong = subst (IsWrong old.names row) (sym 
 rows_push : (all : List (List (List ℕ))) (row : List (List ℕ)) (old mid new : Content) → ReadsRows all old mid → ReadsRow row mid new → ReadsRows (all ++ (row ∷ [])) old new
 rows_push [] row old mid new reads more = (new, subst (λ (s : Content). ReadsRow row s new) reads more, refl)
 rows_push (first ∷ rest) row old mid new (next, reads, others) more = (next, reads, rows_push rest row next mid new others more)
-
--- what is known of the line that comes behind n others
-pub record IsLine (text : List ℕ) (n i : ℕ) (line : List ℕ) : Type 0 where
-  pub inside : n < length (rows text)
-  pub index : i ≡ n
-  pub row : get_or (rows text) n [] ≡ words_of line
-
-pub is_line : (text : List ℕ) (n i : ℕ) (line : List ℕ) → (n < length (enumerate_from 0 (lines text))) × ((i, line) ≡ get_or (enumerate_from 0 (lines text)) n (i, line)) → IsLine text n i line
-is_line text n i line (within, is) =
-    let inside : n < length (lines text) = omega (arith, length-enumerate_from 0 (lines text)) in
-    let e = is ∙ get_or-enumerate_from 0 (lines text) n (i, line) inside in
-    record {
-      inside = omega (arith, length-map (lines text) words_of);
-      index = ap (λ (p : ℕ × List ℕ). p.0) e ∙ zero-add n;
-      row = get_or-map words_of (lines text) n line [] inside ∙ ap words_of (sym (ap (λ (p : ℕ × List ℕ). p.1) e));
-    }
 
 pub rows_more : (text : List ℕ) (n i : ℕ) (line : List ℕ) → IsLine text n i line → (old mid new : Content) → ReadsRows (take n (rows text)) old mid → ReadsRow (words_of line) mid new → ReadsRows (take (n + 1) (rows text)) old new
 rows_more text n i line is old mid new reads more =

@@ -9,11 +9,12 @@ use Rattle.std.proofs.lemmas.List.Elements.{filter-append}
 use Rattle.std.proofs.lemmas.List.Quantifiers.{position-Some}
 use Rattle.script.specs.declared.Command.{Command}
 use Rattle.script.specs.declared.Command.TheVariants as command
-use Rattle.script.specs.declared.CursorKind.{CursorKind}
-use Rattle.script.specs.declared.CursorCommand.{CursorCommand}
-use Rattle.script.specs.Lines.{Said, layout, new_cursor, cursor, said_words}
+use Rattle.commands.specs.declared.CursorKind.{CursorKind}
+use Rattle.commands.specs.declared.CursorCommand.{CursorCommand}
+use Rattle.lines.specs.Lines.{Said, layout, new_cursor, cursor, said_words}
 use Rattle.script.specs.Names.{place_of, made, called, command_of, names_after, line_of}
-use Rattle.script.specs.Scripts.{Content, Adds, ReadsRow, ReadsRows, has_some, written, nothing}
+use Rattle.words.specs.Words.{has_some}
+use Rattle.script.specs.Scripts.{Content, Adds, ReadsRow, ReadsRows, written, nothing}
 
 -- the cursor of the command has a name among these
 abbrev Known : List (List ℕ) → Command → Type 0

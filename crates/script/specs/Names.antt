@@ -4,12 +4,12 @@ use Rattle.std.specs.Borrow.{Bor}
 use Rattle.std.specs.HashMap.{HashMap, get_by}
 use Rattle.script.specs.declared.Command.{Command}
 use Rattle.script.specs.declared.Command.TheVariants as command
-use Rattle.script.specs.declared.CursorKind.{CursorKind}
-use Rattle.script.specs.declared.CursorCommand.{CursorCommand}
+use Rattle.commands.specs.declared.CursorKind.{CursorKind}
+use Rattle.commands.specs.declared.CursorCommand.{CursorCommand}
 use Rattle.script.specs.declared.texts.What.{What}
 use Rattle.script.specs.declared.texts.What.TheVariants.{UnknownCursor, NameTaken}
-use Rattle.script.specs.Args.{texts}
-use Rattle.script.specs.Lines.{Said, layout, new_cursor, cursor}
+use Rattle.words.specs.Words.{texts}
+use Rattle.lines.specs.Lines.{Said, layout, new_cursor, cursor}
 
 -- where the name stands in the order of making
 abbrev pub place_of : List ℕ → (names : List (List ℕ)) → Option ℕ

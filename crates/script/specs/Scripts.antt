@@ -1,39 +1,18 @@
--- A script: the words of its lines, and what is read of them. Assumes nothing.
-use Rattle.std.specs.Prelude.{◌≡◌, ℕ, ◌+◌, ◌<◌, Bool, true, false, not, ◌==◌, List, [], ◌∷◌, ◌++◌, length, map, take, filter, slice_index_or, Result, Ok, Err}
-use Rattle.std.specs.List.{slice_split, before_first, list_any}
-use Rattle.std.specs.Char.{is_ascii_whitespace}
-use Rattle.std.specs.Str.Lines.{lines}
+-- A script: what is read of the words of its lines. Assumes nothing.
+use Rattle.std.specs.Prelude.{◌≡◌, ◌≢◌, ℕ, ◌+◌, ◌<◌, true, false, List, [], ◌∷◌, ◌++◌, length, map, take, slice_index_or, Result, Ok, Err}
+use Rattle.std.specs.List.{list_any}
 use Rattle.script.specs.declared.Command.{Command}
 use Rattle.script.specs.declared.texts.What.{What}
 use Rattle.script.specs.declared.texts.What.TheVariants.{NotACall, NumberTooLarge, UnknownCursor, NameTaken, OutOfMemory}
 use Rattle.script.specs.declared.texts.ScriptFault.{ScriptFault}
 use Rattle.script.specs.declared.texts.Script.{Script}
-use Rattle.script.specs.Numbers.{is_too_large}
-use Rattle.script.specs.declared.lines.Line.{Line}
-use Rattle.script.specs.Lines.{Said, said, Says, said_words}
+use Rattle.words.specs.Words.{rows}
+use Rattle.words.specs.Numbers.{is_too_large}
+use Rattle.lines.specs.declared.Line.{Line}
+use Rattle.lines.specs.Lines.{Said, said, Says, said_words}
 use Rattle.script.specs.Names.{command_of, names_after, line_of}
 
--- ---- the words of a line
-
--- a line ahead of its comment
-abbrev pub code_of : List ℕ → List ℕ
-code_of line = before_first (λ b. b == 35) line
-
-abbrev pub has_some : {A : Type 0} → List A → Bool
-has_some xs = not (length xs == 0)
-
--- what stands between white space
-abbrev pub words_in : List ℕ → List (List ℕ)
-words_in bs = filter has_some (slice_split is_ascii_whitespace bs)
-
-abbrev pub words_of : (line : List ℕ) → List (List ℕ)
-words_of line = words_in (code_of line)
-
--- the words of every line
-abbrev pub rows : (text : List ℕ) → List (List (List ℕ))
-rows text = map words_of (lines text)
-
--- ---- what they say
+-- ---- what the words of lines say
 
 -- the commands, and the names of the cursors that they make
 pub record Content : Type 0 where
@@ -78,7 +57,7 @@ IsRefused names l OutOfMemory = Unit {0}
 
 -- what is wrong with a line of these words
 abbrev pub IsWrong : (names : List (List ℕ)) → (row : List (List ℕ)) → What → Type 0
-IsWrong names row NotACall = SaysNothing row × (list_any is_too_large row ≡ false)
+IsWrong names row NotACall = (row ≢ []) × SaysNothing row × (list_any is_too_large row ≡ false)
 IsWrong names row NumberTooLarge = SaysNothing row × (list_any is_too_large row ≡ true)
 IsWrong names row UnknownCursor = (l : Said) × Says row l × IsRefused names l UnknownCursor
 IsWrong names row NameTaken = (l : Said) × Says row l × IsRefused names l NameTaken
@@ -95,10 +74,10 @@ pub record IsFault (all : List (List (List ℕ))) (old : Content) (fault : Scrip
 
 -- ---- what reading tells
 
--- of words: the line that has them, or how they are wrong whatever the cursors are
+-- of words: the line that has them, or how they are wrong, if they are any, whatever the cursors are
 abbrev pub WordsTold : List (List ℕ) → Result Line What → Type 0
 WordsTold row (Ok l) = Says row (said l)
-WordsTold row (Err w) = (names : List (List ℕ)) → IsWrong names row w
+WordsTold row (Err w) = row ≢ [] → (names : List (List ℕ)) → IsWrong names row w
 
 -- of a line behind what was read
 abbrev pub LineTold : Said → (old : Content) → Result (Unit {0}) What → (new : Content) → Type 0

@@ -1,12 +1,12 @@
 //! The names of cursors.
 
 ghost use Rattle.std.specs.Prelude.{◌≡◌, List, [], ◌∷◌, ◌++◌, slice_index_or, OnOk, OnErr, None};
-ghost use Rattle.script.specs.Lines.{said};
+ghost use Rattle.lines.specs.Lines.{said};
 ghost use Rattle.script.specs.Names.{place_of, command_of, line_of};
 
 use crate::Command;
-use crate::lines::Line;
 use crate::texts::What;
+use lines::Line;
 use std::alloc::{AllocError, Global};
 use std::collections::HashMap;
 use std::marker::Model;
@@ -21,7 +21,7 @@ pub struct Names<'a> {
 
 impl<'a> Model for Names<'a> {
     ghost use Rattle.std.specs.Prelude.{ℕ, List};
-    ghost use Rattle.script.specs.Args.{texts};
+    ghost use Rattle.words.specs.Words.{texts};
     ghost use Rattle.script.specs.Names.{Indexes};
 
     ghost Value = { List (List ℕ) };

@@ -2,14 +2,14 @@
 
 ghost use Rattle.std.specs.Prelude.{◌≡◌, IfOk, Some, filter};
 ghost use Rattle.script.specs.declared.texts.What.TheVariants.{OutOfMemory};
-ghost use Rattle.script.specs.Args.{texts};
-ghost use Rattle.script.specs.Lines.{said};
-ghost use Rattle.script.specs.Scripts.{Parses, RowsTold, RowTold, LineTold, WordsTold, content, written, has_some, rows, words_of, code_of};
+ghost use Rattle.words.specs.Words.{texts, has_some, rows, words_of};
+ghost use Rattle.lines.specs.Lines.{said};
+ghost use Rattle.script.specs.Scripts.{Parses, RowsTold, RowTold, LineTold, WordsTold, content, written};
 ghost use Rattle.script.specs.Text.{what_text, script_fault_text};
 
-use crate::lines::Line;
+use crate::Command;
 use crate::names::Names;
-use crate::{Command, forms};
+use lines::Line;
 use std::alloc::{AllocError, AllocFailed, Global};
 use std::error::Error;
 use std::fmt;
@@ -115,7 +115,7 @@ fn add_lines<'a>(script: &mut Script<'a>, alloc: Global, text: &'a str) -> Resul
 fn add_line<'a>(script: &mut Script<'a>, alloc: Global, text: &'a str) -> Result<(), What>
     ensures { RowTold (words_of text.now) (content script.old) result (content script.new) }
 {
-    let words = words(alloc, text)?;
+    let words = words::words(alloc, text)?;
     if words.is_empty() {
         return Ok(());
     }
@@ -136,23 +136,6 @@ impl<'a> Script<'a> {
     }
 }
 
-// The words of a line, ahead of its comment.
-fn words(alloc: Global, line: &str) -> Result<Vec<&str>, AllocError>
-    ensures { IfOk result (λ ws. texts ws.items ≡ words_of line.now) }
-{
-    code(line).split_ascii_whitespace().collect(alloc)
-}
-
-// A line ahead of its comment.
-fn code(line: &str) -> &str
-    ensures { result.now ≡ code_of line.now }
-{
-    match line.split_once('#') {
-        Some((code, _)) => code,
-        None => line,
-    }
-}
-
 // The line that has these words.
 fn read<'a>(words: &[&'a str]) -> Result<Line<'a>, What>
     ensures { WordsTold (texts words.now) result }
@@ -160,7 +143,7 @@ fn read<'a>(words: &[&'a str]) -> Result<Line<'a>, What>
     if let Some(line) = Line::read(words) {
         return Ok(line);
     }
-    if words.iter().any(|word| forms::is_too_large(word)) {
+    if words.iter().any(|word| words::is_too_large(word)) {
         Err(What::NumberTooLarge)
     } else {
         Err(What::NotACall)

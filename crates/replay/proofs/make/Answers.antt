@@ -17,4 +17,4 @@ returns-in_ok-call_cursor-in-Cursor g c =
     let there : k < length cs = cursor_there (length cs) k c.in-Cursor.call (ap (fits (length cs)) (sym c.in-Cursor.is) ∙ c.requires) in
     let ok : WorkedBy (cursor_rule c.in-Cursor.call (pos (get_or cs k z)) (program c.args.layout.now)) (Ok a) (program c.call_cursor.new.layout) (pos c.call_cursor.new.cursor) =
     subst (λ r. WorkedBy (cursor_rule c.in-Cursor.call (pos (get_or cs k z)) (program c.args.layout.now)) r (program c.call_cursor.new.layout) (pos c.call_cursor.new.cursor)) c.in_ok-call_cursor-in-Cursor.was c.call_cursor.ensures.rule in
-    subst (λ q. Applied pos q (Ok a) c.args.layout.now c.call_cursor.new.layout cs (slice_set cs k c.call_cursor.new.cursor)) (sym c.in-Cursor.is) (cursor_applied pos cs k z there c.in-Cursor.call a c.args.layout.now c.call_cursor.new.layout c.call_cursor.new.cursor ok)
+    subst (λ q. Applied pos q (Ok a) c.args.layout.now c.call_cursor.new.layout cs (slice_set cs k c.call_cursor.new.cursor)) (sym c.in-Cursor.is) (cursor_applied pos cs k z there c.in-Cursor.call a c.args.layout.now c.call_cursor.new.layout c.call_cursor.new.cursor ok c.call_cursor.ensures.layout_stays c.call_cursor.ensures.cursor_stays)

@@ -4,7 +4,8 @@ use Rattle.std.proofs.lemmas.List.{length_push}
 use Rattle.std.proofs.lemmas.Iterator.Consumers.{YieldsList-from_enumerate, YieldsList-at, YieldsList-turn, YieldsList-end}
 use Rattle.std.proofs.lemmas.Iterator.Splits.{YieldsList-from_lines}
 use Rattle.script.specs.Scripts.{content}
-use Rattle.script.proofs.Rows.{IsLine, is_line, rows_more, rows_all, fault_here}
+use Rattle.words.proofs.Rows.{IsLine, is_line}
+use Rattle.script.proofs.Rows.{rows_more, rows_all, fault_here}
 use Rattle.script.proofs.texts.add_lines.Goals as goal
 use Rattle.script.proofs.texts.add_lines.Goals.{In-Some}
 

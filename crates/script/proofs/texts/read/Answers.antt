@@ -3,9 +3,10 @@ use Rattle.std.proofs.Common.{◌≡◌, ℕ, List, Bor, rules, tests, sym, ◌�
 use Rattle.std.specs.List.{list_any}
 use Rattle.std.proofs.lemmas.Iterator.{YieldsList-from_slice}
 use Rattle.std.proofs.lemmas.Iterator.Search.{any_from_yields_List}
-use Rattle.script.specs.Args.{texts}
-use Rattle.script.specs.Numbers.{is_too_large}
-use Rattle.script.proofs.Rows.{any_texts, says_nothing}
+use Rattle.words.specs.Words.{texts}
+use Rattle.words.specs.Numbers.{is_too_large}
+use Rattle.words.proofs.Rows.{any_texts}
+use Rattle.script.proofs.Rows.{says_nothing}
 use Rattle.script.proofs.texts.read.Goals as goal
 use Rattle.script.proofs.texts.read.Goals.{After-any}
 
@@ -15,7 +16,7 @@ any_is c =
     ∙ sym (any_texts is_too_large c.args.words.now)
 
 pub returns-then-any : goal.returns-then-any
-returns-then-any c names = (says_nothing _ c.in_default.ensures, sym (any_is (goal.at.returns-then-any c).After-any) ∙ c.if-any.true)
+returns-then-any c some names = (says_nothing _ c.in_default.ensures, sym (any_is (goal.at.returns-then-any c).After-any) ∙ c.if-any.true)
 
 pub returns-else-any : goal.returns-else-any
-returns-else-any c names = (says_nothing _ c.in_default.ensures, sym (any_is (goal.at.returns-else-any c).After-any) ∙ c.if-any.false)
+returns-else-any c some names = (some, says_nothing _ c.in_default.ensures, sym (any_is (goal.at.returns-else-any c).After-any) ∙ c.if-any.false)

@@ -1,6 +1,6 @@
 -- The map finds the names that were there and the new one. Assumes nothing.
 use Rattle.std.proofs.Common.{◌≡◌, length, sym, ◌∙◌, None}
-use Rattle.script.specs.Args.{texts}
+use Rattle.words.specs.Words.{texts}
 use Rattle.script.specs.Names.{place_of}
 use Rattle.script.proofs.Places.{indexed, texts_push, length-texts}
 use Rattle.script.proofs.names.Names.push.Goals as goal

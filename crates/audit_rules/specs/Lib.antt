@@ -1,0 +1,3 @@
+pub mod Rules
+pub mod Breaches
+pub mod Tables

@@ -1,0 +1,4 @@
+pub mod Links
+pub mod Marking
+pub mod Going
+pub mod Runs

@@ -1,0 +1,3 @@
+pub mod Made
+pub mod Scripts
+pub mod Walked

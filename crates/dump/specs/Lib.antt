@@ -1,0 +1,5 @@
+pub mod Lines
+pub mod Dumps
+pub mod Parts
+pub mod Text
+pub mod Printed

@@ -1,0 +1,10 @@
+use Rattle.script.specs.Scripts.{content}
+use Rattle.handset.proofs.run.run.Goals as goal
+
+pub returns : goal.returns
+returns g c = record {
+  script = content c.in_ok-script.script;
+  reads = c.in_ok-script.ensures.reads;
+  reached = c.in_ok-play.field-0;
+  plays = c.in_ok-play.ensures;
+}

@@ -1,0 +1,4 @@
+pub mod Compared
+pub mod Contrasts
+pub mod Judged
+pub mod Runs

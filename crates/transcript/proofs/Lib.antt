@@ -1,0 +1,4 @@
+pub mod Back
+pub mod InTurn
+pub mod Known
+pub mod Slots

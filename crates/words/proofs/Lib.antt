@@ -1,0 +1,4 @@
+pub mod Numerals
+pub mod Prefixes
+pub mod Splits
+pub mod Rows
