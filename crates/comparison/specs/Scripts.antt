@@ -17,9 +17,9 @@ pub record ScriptsCompared (first second : List ℕ) (c : Comparison) : Type 0 w
   pub reads_second : ReadsRows (rows second) nothing other
   pub parts : Parts c.0 (walk (program_of one.commands).lines) (walk (program_of other.commands).lines)
 
--- they are compared, or a line is wrong in one of them, or there is no memory left
+-- they are compared, or a line is wrong in the first, or else in the second, or there is no memory left
 abbrev pub ScriptsTold : (first second : List ℕ) → Result Comparison CompareFault → Type 0
 ScriptsTold a b (Ok c) = ScriptsCompared a b c
 ScriptsTold a b (Err (First f)) = IsFault (rows a) nothing f
-ScriptsTold a b (Err (Second f)) = IsFault (rows b) nothing f
+ScriptsTold a b (Err (Second f)) = ((one : Content) × ReadsRows (rows a) nothing one) × IsFault (rows b) nothing f
 ScriptsTold a b (Err OutOfMemory) = Unit {0}

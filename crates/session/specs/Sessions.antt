@@ -11,6 +11,7 @@ use Rattle.cursor.specs.declared.CursorPosition.TheVariants.{Nowhere}
 use Rattle.cursor.specs.declared.any.AnyCursor.{AnyCursor}
 use Rattle.cursor.specs.declared.any.AnyCursor.TheVariants.{Func, Word}
 use Rattle.cursor.specs.Kinds.{any_position}
+use Rattle.cursor.specs.SourceLocs.{no_location}
 use Rattle.cursor.specs.Positions.{current_inst, current_block}
 use Rattle.commands.specs.declared.Question.{Question}
 use Rattle.commands.specs.declared.Question.TheVariants as question
@@ -75,9 +76,9 @@ abbrev pub cursor_answer : CursorQuestion → Option CursorPosition → Program 
 cursor_answer q None p = None
 cursor_answer q (Some at) p = Some (asked_at q at p)
 
--- is it a cursor of the kind?
+-- is it a cursor of the kind, and has it no source location?
 abbrev pub IsKind : CursorKind → AnyCursor → Type 0
-IsKind kind.Func (Func c) = Unit {0}
+IsKind kind.Func (Func c) = c.srcloc ≡ no_location
 IsKind kind.Func (Word c) = ⊥
 IsKind kind.Word (Func c) = ⊥
 IsKind kind.Word (Word c) = Unit {0}
