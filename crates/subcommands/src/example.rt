@@ -1,15 +1,19 @@
 //! The built-in example: two controllers of a pair reach one dispatch program by different edits.
 
-ghost use Rattle.std.specs.Prelude.{◌≡◌, IfOk, OnOk, Some};
+ghost use Rattle.std.specs.Prelude.{◌≡◌, IfOk, Some};
 ghost use Rattle.layout.specs.Program.{program};
-ghost use Rattle.handset.specs.Contrasts.{Contrasts, Shows, contrast_text, same_text};
+ghost use Rattle.script.specs.Scripts.{content};
+ghost use Rattle.subcommands.specs.Contrasts.{Contrasts, PlaysBelow, Shows, ShowsContrast, ShowsScripts, contrast_text, same_text};
 
 use anyhow::Result;
 use comparison::{Differences, Ties};
 use layout::Layout;
+use script::Script;
+use session::Session;
 use std::alloc::{AllocError, Global};
 use std::fmt;
 use std::io::Write;
+use std::process::ExitCode;
 
 /// The script of the first controller.
 pub(crate) const FIRST: &str = "\
@@ -57,25 +61,64 @@ pp_cmp inst9 inst6
 walk
 ";
 
+// What stands above each of the two transcripts.
+const FIRST_HEADING: &str = "Two controllers of a pair are to hold one dispatch program. The first enters it in order, and a patch is squeezed in:\n";
+const SECOND_HEADING: &str =
+    "\nThe second enters two blocks as one and cuts it, and joins one from two:\n";
+
 /// Replays the edits of two controllers, prints what they answer, and shows where their numbers differ and how they rank every tie.
-pub(crate) fn show<W: Write>(alloc: Global, first: &str, second: &str, out: &mut W) -> Result<()>
-    ensures { OnOk result (Shows first.now second.now (W.contents out.old) (W.contents out.new)) }
+pub(crate) fn show<W: Write>(
+    alloc: Global,
+    first: &str,
+    second: &str,
+    out: &mut W,
+) -> Result<ExitCode>
+    ensures { IfOk result (Shows first.now second.now (W.contents out.old) (W.contents out.new)) }
 {
     let first = script::parse(alloc, first)?;
     let second = script::parse(alloc, second)?;
-    writeln!(
-        out,
-        "Two controllers of a pair are to hold one dispatch program. The first enters it in order, and a patch is squeezed in:\n"
-    )?;
-    let one = transcript::play(alloc, &first, out)?;
-    writeln!(
-        out,
-        "\nThe second enters two blocks as one and cuts it, and joins one from two:\n"
-    )?;
-    let other = transcript::play(alloc, &second, out)?;
-    let contrast = contrasted(alloc, &one.layout, &other.layout)?;
+    show_scripts(alloc, &first, &second, out)
+}
+
+// Replays two scripts, each below its heading, and shows how the layouts compare to which they lead.
+fn show_scripts<W: Write>(
+    alloc: Global,
+    first: &Script<'_>,
+    second: &Script<'_>,
+    out: &mut W,
+) -> Result<ExitCode>
+    ensures { IfOk result (ShowsScripts (content first.now) (content second.now) (W.contents out.old) (W.contents out.new)) }
+{
+    let one = play_below(alloc, FIRST_HEADING, first, out)?;
+    let other = play_below(alloc, SECOND_HEADING, second, out)?;
+    show_contrast(alloc, &one.layout, &other.layout, out)
+}
+
+// Prints a heading, and replays a script below it.
+fn play_below<W: Write>(
+    alloc: Global,
+    heading: &str,
+    script: &Script<'_>,
+    out: &mut W,
+) -> Result<Session>
+    ensures { IfOk result (λ s. PlaysBelow heading.now (content script.now) s (W.contents out.old) (W.contents out.new)) }
+{
+    writeln!(out, "{heading}")?;
+    Ok(transcript::play(alloc, script, out)?)
+}
+
+// Prints how two layouts compare.
+fn show_contrast<W: Write>(
+    alloc: Global,
+    first: &Layout,
+    second: &Layout,
+    out: &mut W,
+) -> Result<ExitCode>
+    ensures { IfOk result (ShowsContrast (program first.now) (program second.now) (W.contents out.old) (W.contents out.new)) }
+{
+    let contrast = contrasted(alloc, first, second)?;
     writeln!(out, "\n{contrast}")?;
-    Ok(())
+    Ok(ExitCode::SUCCESS)
 }
 
 // How two controllers' layouts compare.

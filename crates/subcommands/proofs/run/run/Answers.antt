@@ -1,5 +1,6 @@
+use Rattle.std.proofs.Common.{rules}
 use Rattle.script.specs.Scripts.{content}
-use Rattle.handset.proofs.run.run.Goals as goal
+use Rattle.subcommands.proofs.run.run.Goals as goal
 
 pub returns : goal.returns
 returns g c = record {
@@ -7,4 +8,5 @@ returns g c = record {
   reads = c.in_ok-script.ensures.reads;
   reached = c.in_ok-play.field-0;
   plays = c.in_ok-play.ensures;
+  success = search rules;
 }

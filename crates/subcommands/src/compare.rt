@@ -2,7 +2,7 @@
 
 ghost use Rattle.std.specs.Prelude.{◌≡◌, IfOk, IsErr};
 ghost use Rattle.std.specs.Process.{exit_status};
-ghost use Rattle.handset.specs.Compared.{AreScripts, TellsComparison, status_of};
+ghost use Rattle.subcommands.specs.Compared.{AreScripts, TellsComparison, status_of};
 
 use anyhow::Result;
 use comparison::Comparison;

@@ -1,4 +1,5 @@
 pub mod Compared
 pub mod Contrasts
 pub mod Judged
+pub mod Obeyed
 pub mod Runs

@@ -1,7 +1,7 @@
 //! Tables from another controller, judged.
 
 ghost use Rattle.std.specs.Prelude.{IfOk, Some};
-ghost use Rattle.handset.specs.Judged.{Judges, judgement_text};
+ghost use Rattle.subcommands.specs.Judged.{Judges, judgement_text};
 
 use anyhow::Result;
 use std::alloc::Global;
