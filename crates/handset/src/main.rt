@@ -2,6 +2,10 @@
 
 #![tactic(auto)]
 
+ghost use Rattle.std.specs.Prelude.{IfOk};
+ghost use Rattle.words.specs.Words.{texts};
+ghost use Rattle.handset.specs.Told.{Told};
+
 use anyhow::{Context, Result, bail};
 use std::io::{BufWriter, Write};
 use std::process::ExitCode;
@@ -15,37 +19,41 @@ fn main(rt: HostRuntime) -> Result<ExitCode> {
         .iter()
         .map(|arg| arg.as_str())
         .collect::<Vec<&str>>(alloc)?;
-    let read = |file: &str| match file {
-        "-" => io::read_to_string(alloc, rt.reader()),
-        _ => fs::read_to_string(&rt, file),
-    };
     let mut out = BufWriter::new(alloc, io::writer(&rt))?;
-    let status = match *words.as_slice() {
-        [] => Subcommand::Example.obey(alloc, &mut out)?,
-        ["run", file] => {
-            let text = read(file).context(file)?;
-            Subcommand::Run(&text).obey(alloc, &mut out).context(file)?
-        }
-        ["run", file, "--tables"] => {
-            let text = read(file).context(file)?;
-            Subcommand::Tables(&text)
-                .obey(alloc, &mut out)
-                .context(file)?
-        }
-        ["compare", first, second] => {
-            let one = read(first).context(first)?;
-            let other = read(second).context(second)?;
-            Subcommand::Compare(&one, &other).obey(alloc, &mut out)?
-        }
-        ["audit", file] => {
-            let text = read(file).context(file)?;
-            Subcommand::Audit(&text)
-                .obey(alloc, &mut out)
-                .context(file)?
-        }
-        ["help"] => Subcommand::Help.obey(alloc, &mut out)?,
-        _ => bail!("no such command; ./handset help tells which there are"),
-    };
+    let status = obey(&rt, &words, &mut out)?;
     out.flush()?;
     Ok(status)
+}
+
+// Does what the words tell, with the texts of the files that they name.
+fn obey<W: Write>(rt: &HostRuntime, words: &[&str], out: &mut W) -> Result<ExitCode>
+    ensures { IfOk result (Told (texts words.now) (W.contents out.old) (W.contents out.new)) }
+{
+    let alloc = rt.alloc();
+    let read = |file: &str| match file {
+        "-" => io::read_to_string(alloc, rt.reader()).context(file),
+        _ => fs::read_to_string(rt, file).context(file),
+    };
+    match *words {
+        [] => Subcommand::Example.obey(alloc, out),
+        ["run", file] => {
+            let text = read(file)?;
+            Subcommand::Run(&text).obey(alloc, out).context(file)
+        }
+        ["run", file, "--tables"] => {
+            let text = read(file)?;
+            Subcommand::Tables(&text).obey(alloc, out).context(file)
+        }
+        ["compare", first, second] => {
+            let one = read(first)?;
+            let other = read(second)?;
+            Subcommand::Compare(&one, &other).obey(alloc, out)
+        }
+        ["audit", file] => {
+            let text = read(file)?;
+            Subcommand::Audit(&text).obey(alloc, out).context(file)
+        }
+        ["help"] => Subcommand::Help.obey(alloc, out),
+        _ => bail!("no such command; ./handset help tells which there are"),
+    }
 }
