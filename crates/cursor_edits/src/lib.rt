@@ -1,21 +1,25 @@
 //! Edits at the position of a cursor of any kind.
 
-#![tactic(auto, using(layout::proofs::Ranges::out_of_range))]
+#![tactic(auto)]
 
-ghost use Rattle.std.specs.Prelude.{◌≡◌, None};
+ghost use Rattle.std.specs.Prelude.{◌≡◌, true, None, Some, MatchResult};
+ghost use Rattle.cursor.specs.Positions.{standing};
+ghost use Rattle.cursor_edits.specs.Places.{place_in_range, put_asked};
 ghost use Rattle.cursor_edits.specs.Replaced.{put_then_asked};
-ghost use Rattle.cursor_faults.specs.Edits.{Works, told_taken, inst_put, inst_put_writes, insert_inst_rule, remove_inst_rule, remove_inst_and_step_back_rule, replace_inst_rule, insert_block_rule};
+ghost use Rattle.cursor_faults.specs.Edits.{Works, told_taken, inst_put, inst_put_writes, insert_inst_rule, remove_inst_rule, take_inst_rule, remove_inst_and_step_back_rule, replace_inst_rule, insert_block_rule};
 ghost use Rattle.cursor_faults.specs.Questions.{CursorFirstNo, put_inst_asked, replace_inst_asked};
-ghost use Rattle.cursor_faults.specs.Refusals.{cursor_told};
-ghost use Rattle.faults.specs.Questions.{first_no};
+ghost use Rattle.cursor_faults.specs.Refusals.{cursor_refusal_of, cursor_told};
+ghost use Rattle.faults.specs.Questions.{first_no, in_range};
 ghost use Rattle.faults.specs.Refusals.{SameIfRefused, accepted};
 ghost use Rattle.layout.specs.Program.{program};
 
 use cursor::{Cursor, CursorPosition};
 use cursor_faults::CursorFault;
+use entities::progpoint::ProgramPoint;
 use entities::{Block, Inst};
 use faults::{Entity, LayoutFault};
 use layout::Layout;
+use steps::Direction;
 
 /// Puts `inst` in ahead of the instruction at which the cursor is, or at the end of the block after which it is, and numbers it. The cursor
 /// stays, so that instructions put in one after the other stand in that order.
@@ -28,9 +32,8 @@ pub fn insert_inst<C: Cursor>(
     ensures layout { SameIfRefused result layout.old layout.new }
     ensures cursor { cursor.new ≡ cursor.old }
 {
-    asked::ensure_in_range(inst.into())?;
     let at = cursor.position();
-    steps::ensure_standing(layout, at)?;
+    ensure_open(layout, at, inst.into())?;
     match at {
         CursorPosition::At(before) => Ok(layout.insert_inst(inst, before)?),
         CursorPosition::After(block) => Ok(layout.append_inst(inst, block)?),
@@ -47,13 +50,8 @@ pub fn remove_inst<C: Cursor>(
     ensures layout { SameIfRefused result layout.old layout.new }
     ensures cursor { SameIfRefused result cursor.old cursor.new }
 {
-    let next = steps::next_inst_position(cursor, layout)?;
-    let inst = steps::current_inst(cursor).ok_or(CursorFault::WrongPosition)?;
-    let writes = layout.remove_inst(inst)?;
-    if let Some(pos) = next {
-        cursor.set_position(pos);
-    }
-    Ok((inst, writes))
+    let next = steps::inst_step(layout, cursor.position(), Direction::Forward);
+    take_inst(cursor, layout, next)
 }
 
 /// Takes out the instruction at which the cursor is, and steps back. Answers the instruction, and that no number was written.
@@ -65,13 +63,8 @@ pub fn remove_inst_and_step_back<C: Cursor>(
     ensures layout { SameIfRefused result layout.old layout.new }
     ensures cursor { SameIfRefused result cursor.old cursor.new }
 {
-    let prev = steps::prev_inst_position(cursor, layout)?;
-    let inst = steps::current_inst(cursor).ok_or(CursorFault::WrongPosition)?;
-    let writes = layout.remove_inst(inst)?;
-    if let Some(pos) = prev {
-        cursor.set_position(pos);
-    }
-    Ok((inst, writes))
+    let prev = steps::inst_step(layout, cursor.position(), Direction::Backward);
+    take_inst(cursor, layout, prev)
 }
 
 /// Takes out the instruction at which the cursor is, and puts `new_inst` in where that leads: ahead of the next instruction, where the
@@ -104,17 +97,47 @@ pub fn insert_block<C: Cursor>(
     ensures layout { SameIfRefused result layout.old layout.new }
     ensures cursor { SameIfRefused result cursor.old cursor.new }
 {
-    asked::ensure_in_range(new_block.into())?;
     let at = cursor.position();
-    steps::ensure_standing(layout, at)?;
-    let writes = match at {
+    ensure_open(layout, at, new_block.into())?;
+    let put = match at {
         CursorPosition::At(inst) => return Ok(layout.split_block(new_block, inst)?),
-        CursorPosition::Nowhere => layout.append_block(new_block)?,
-        CursorPosition::Before(block) => layout.insert_block(new_block, block)?,
-        CursorPosition::After(block) => layout.insert_block_after(new_block, block)?,
+        CursorPosition::Nowhere => layout.append_block(new_block),
+        CursorPosition::Before(block) => layout.insert_block(new_block, block),
+        CursorPosition::After(block) => layout.insert_block_after(new_block, block),
     };
+    let writes = put?;
     cursor.set_position(CursorPosition::After(new_block));
     Ok(writes)
+}
+
+// Asks whether `pp`, which is to be put in, is in range, and then whether `at` is Nowhere or on something inserted.
+fn ensure_open(layout: &Layout, at: CursorPosition, pp: ProgramPoint) -> Result<(), CursorFault>
+    ensures { MatchResult result (λ _. (in_range pp ≡ true) × ((standing at (program layout.now) ≡ true) × (place_in_range at ≡ true))) (λ f. first_no (put_asked pp at (program layout.now)) ≡ Some (cursor_refusal_of f)) }
+{
+    asked::ensure_in_range(pp)?;
+    steps::ensure_standing(layout, at)?;
+    Ok(())
+}
+
+// Takes out the instruction at which the cursor is, and moves the cursor to `to`, or leaves it where there is none. Answers the instruction,
+// and that no number was written.
+#[tactic(auto, using(layout::proofs::Ranges::out_of_range))]
+fn take_inst<C: Cursor>(
+    cursor: &mut C,
+    layout: &mut Layout,
+    to: Option<CursorPosition>,
+) -> Result<(Inst, u32), CursorFault>
+    ensures rule { Works (take_inst_rule to (C.pos cursor.old) (program layout.old)) (told_taken result) (program layout.new) (C.pos cursor.new) }
+    ensures layout { SameIfRefused result layout.old layout.new }
+    ensures cursor { SameIfRefused result cursor.old cursor.new }
+{
+    steps::ensure_standing(layout, cursor.position())?;
+    let inst = steps::current_inst(cursor).ok_or(CursorFault::WrongPosition)?;
+    let writes = layout.remove_inst(inst)?;
+    if let Some(pos) = to {
+        cursor.set_position(pos);
+    }
+    Ok((inst, writes))
 }
 
 // Everything that a replacement is asked. With a yes to all of it, `new_inst` can be put in once the old instruction is out.
