@@ -2,17 +2,19 @@
 
 #![tactic(auto)]
 
-ghost use Rattle.std.specs.Prelude.{◌≡◌};
+ghost use Rattle.std.specs.Prelude.{◌≡◌, Some};
 ghost use Rattle.calls.specs.Replies.{replied, MovedBy, WorkedBy};
 ghost use Rattle.calls.specs.Calls.{edit_rule, goto_rule, step_rule, position_reply, cursor_edit_rule, cursor_rule, LayoutStays, CursorStays};
+ghost use Rattle.calls.specs.declared.Answer.TheVariants.{Done as answered_done, Position as answered_position, Took as answered_took};
 ghost use Rattle.cursor_faults.specs.Moves.{Goes, ComesBack};
 ghost use Rattle.faults.specs.Refusals.{SameIfRefused};
 ghost use Rattle.faults.specs.Rules.{Follows};
 ghost use Rattle.layout.specs.Program.{program};
 
 use calls::{Answer, CursorCall, CursorEdit, Edit, Goto, PositionQuestion, Step};
-use cursor::Cursor;
+use cursor::{Cursor, CursorPosition};
 use cursor_faults::CursorFault;
+use entities::Inst;
 use faults::LayoutFault;
 use layout::Layout;
 use std::mem;
@@ -91,15 +93,18 @@ pub fn position<C: Cursor>(
 ) -> Result<Answer, CursorFault>
     ensures { replied result ≡ position_reply question (C.pos cursor.now) (program layout.now) }
 {
-    let position = match question {
-        PositionQuestion::NextInst => steps::next_inst_position(cursor, layout)?,
-        PositionQuestion::PrevInst => steps::prev_inst_position(cursor, layout)?,
-        PositionQuestion::NextBlock => Some(steps::next_block_position(cursor, layout)?),
-        PositionQuestion::PrevBlock => Some(steps::prev_block_position(cursor, layout)?),
-        PositionQuestion::Next => Some(steps::next_position(cursor, layout)?),
-        PositionQuestion::Prev => Some(steps::prev_position(cursor, layout)?),
-    };
-    Ok(Answer::Position(position))
+    match question {
+        PositionQuestion::NextInst => steps::next_inst_position(cursor, layout).map(
+            Answer::Position,
+        ),
+        PositionQuestion::PrevInst => steps::prev_inst_position(cursor, layout).map(
+            Answer::Position,
+        ),
+        PositionQuestion::NextBlock => steps::next_block_position(cursor, layout).map(leads_to),
+        PositionQuestion::PrevBlock => steps::prev_block_position(cursor, layout).map(leads_to),
+        PositionQuestion::Next => steps::next_position(cursor, layout).map(leads_to),
+        PositionQuestion::Prev => steps::prev_position(cursor, layout).map(leads_to),
+    }
 }
 
 /// Makes an edit at the cursor.
@@ -113,26 +118,17 @@ pub fn edit_at<C: Cursor>(
     ensures cursor { SameIfRefused result cursor.old cursor.new }
 {
     match edit {
-        CursorEdit::InsertInst(inst) => {
-            let writes = cursor_edits::insert_inst(cursor, layout, inst)?;
-            Ok(Answer::Wrote(writes))
-        }
-        CursorEdit::RemoveInst => {
-            let (inst, writes) = cursor_edits::remove_inst(cursor, layout)?;
-            Ok(Answer::Took(inst, writes))
-        }
-        CursorEdit::RemoveInstAndStepBack => {
-            let (inst, writes) = cursor_edits::remove_inst_and_step_back(cursor, layout)?;
-            Ok(Answer::Took(inst, writes))
-        }
-        CursorEdit::ReplaceInst(inst) => {
-            let (old_inst, writes) = cursor_edits::replace_inst(cursor, layout, inst)?;
-            Ok(Answer::Took(old_inst, writes))
-        }
-        CursorEdit::InsertBlock(block) => {
-            let writes = cursor_edits::insert_block(cursor, layout, block)?;
-            Ok(Answer::Wrote(writes))
-        }
+        CursorEdit::InsertInst(inst) => cursor_edits::insert_inst(cursor, layout, inst).map(
+            Answer::Wrote,
+        ),
+        CursorEdit::RemoveInst => cursor_edits::remove_inst(cursor, layout).map(took),
+        CursorEdit::RemoveInstAndStepBack => cursor_edits::remove_inst_and_step_back(
+            cursor, layout,
+        ).map(took),
+        CursorEdit::ReplaceInst(inst) => cursor_edits::replace_inst(cursor, layout, inst).map(took),
+        CursorEdit::InsertBlock(block) => cursor_edits::insert_block(cursor, layout, block).map(
+            Answer::Wrote,
+        ),
     }
 }
 
@@ -149,23 +145,8 @@ pub fn call_cursor<C: Cursor + Drop>(
     ensures cursor_stays { CursorStays call cursor.old cursor.new }
 {
     match call {
-        CursorCall::Goto(to) => {
-            goto(cursor, layout, to)?;
-            Ok(Answer::Done)
-        }
-        CursorCall::At(to) => {
-            let taken = mem::replace(cursor, C::new());
-            match at(taken, layout, to) {
-                Ok(back) => {
-                    *cursor = back;
-                    Ok(Answer::Done)
-                }
-                Err((back, fault)) => {
-                    *cursor = back;
-                    Err(fault)
-                }
-            }
-        }
+        CursorCall::Goto(to) => goto(cursor, layout, to).map(done),
+        CursorCall::At(to) => goto_by_value(cursor, layout, to).map(done),
         CursorCall::Step(to) => step(cursor, layout, to),
         CursorCall::Position(question) => position(cursor, layout, question),
         CursorCall::Edit(edit) => edit_at(cursor, layout, edit),
@@ -174,9 +155,61 @@ pub fn call_cursor<C: Cursor + Drop>(
             Ok(Answer::Done)
         }
         CursorCall::AtPosition(to) => {
-            let taken = mem::replace(cursor, C::new());
-            *cursor = gotos::at_position(taken, to);
+            set_by_value(cursor, to);
             Ok(Answer::Done)
         }
     }
+}
+
+// The `at_` call of a goto: the cursor is taken out, handed to it, and put back.
+fn goto_by_value<C: Cursor + Drop>(
+    cursor: &mut C,
+    layout: &Layout,
+    to: Goto,
+) -> Result<(), CursorFault>
+    ensures rule { Goes (goto_rule to (C.pos cursor.old) (program layout.now)) result (C.pos cursor.new) }
+    ensures refused { SameIfRefused result cursor.old cursor.new }
+{
+    let taken = mem::replace(cursor, C::new());
+    match at(taken, layout, to) {
+        Ok(back) => {
+            *cursor = back;
+            Ok(())
+        }
+        Err((back, fault)) => {
+            *cursor = back;
+            Err(fault)
+        }
+    }
+}
+
+// `at_position`: the cursor is taken out, handed to it, and put back.
+fn set_by_value<C: Cursor + Drop>(cursor: &mut C, to: CursorPosition)
+    ensures { C.pos cursor.new ≡ to }
+{
+    let taken = mem::replace(cursor, C::new());
+    *cursor = gotos::at_position(taken, to);
+}
+
+// ---- answers
+
+// What is answered where something was done and there is nothing to tell.
+fn done(_nothing: ()) -> Answer
+    ensures { result ≡ answered_done }
+{
+    Answer::Done
+}
+
+// The position to which a step that always leads somewhere would lead.
+fn leads_to(position: CursorPosition) -> Answer
+    ensures { result ≡ answered_position (Some position) }
+{
+    Answer::Position(Some(position))
+}
+
+// The instruction taken out, and how many numbers were written.
+fn took(taken: (Inst, u32)) -> Answer
+    ensures { result ≡ answered_took taken.0 taken.1 }
+{
+    Answer::Took(taken.0, taken.1)
 }
