@@ -3,11 +3,13 @@
 ghost use Rattle.std.specs.Prelude.{◌≡◌, ◌↔◌};
 ghost use Rattle.cursor.specs.declared.CursorPosition.{CursorPosition as Position};
 ghost use Rattle.calls.specs.declared.CursorCall.{CursorCall as Call};
+ghost use Rattle.calls.specs.declared.Edit.{Edit as OneEdit};
+ghost use Rattle.calls.specs.declared.PositionQuestion.{PositionQuestion as Asked};
 ghost use Rattle.commands.specs.declared.LayoutCommand.{LayoutCommand as OfLayout};
 ghost use Rattle.commands.specs.declared.CursorCommand.{CursorCommand as OfCursor};
 ghost use Rattle.commands.specs.declared.CursorKind.{CursorKind as Kind};
 ghost use Rattle.forms.specs.Forms.{bare, one, two};
-ghost use Rattle.call_names.specs.Forms.{layout_form, cursor_form, call_form, position_args, kind_word};
+ghost use Rattle.call_names.specs.Forms.{layout_form, cursor_form, call_form, edit_form, position_question_form, position_args, kind_word};
 
 use calls::{CursorCall, CursorEdit, Edit, Goto, PositionQuestion, Step};
 use commands::{CursorCommand, CursorKind, CursorQuestion, LayoutCommand, Question};
@@ -81,23 +83,28 @@ fn of_inst(name: &str, inst: Inst) -> Option<LayoutCommand>
 fn of_two(name: &str, first: Arg, second: Arg) -> Option<LayoutCommand>
     ensures { (c : OfLayout) → result ≡ Some c ↔ layout_form c ≡ two name.now first second }
 {
+    match name {
+        "pp_cmp" => Some(LayoutCommand::Ask(Question::PpCmp(first.point()?, second.point()?))),
+        _ => edit_of_two(name, first, second).map(LayoutCommand::Edit),
+    }
+}
+
+// The edit with this name and these two arguments.
+fn edit_of_two(name: &str, first: Arg, second: Arg) -> Option<Edit>
+    ensures { (e : OneEdit) → result ≡ Some e ↔ edit_form e ≡ two name.now first second }
+{
     match (name, first, second) {
-        ("insert_block", Arg::Block(block), Arg::Block(before)) => Some(LayoutCommand::Edit(
-            Edit::InsertBlock(block, before),
-        )),
-        ("insert_block_after", Arg::Block(block), Arg::Block(after)) => Some(LayoutCommand::Edit(
-            Edit::InsertBlockAfter(block, after),
-        )),
-        ("split_block", Arg::Block(block), Arg::Inst(before)) => Some(LayoutCommand::Edit(
-            Edit::SplitBlock(block, before),
-        )),
-        ("append_inst", Arg::Inst(inst), Arg::Block(block)) => Some(LayoutCommand::Edit(
-            Edit::AppendInst(inst, block),
-        )),
-        ("insert_inst", Arg::Inst(inst), Arg::Inst(before)) => Some(LayoutCommand::Edit(
-            Edit::InsertInst(inst, before),
-        )),
-        ("pp_cmp", a, b) => Some(LayoutCommand::Ask(Question::PpCmp(a.point()?, b.point()?))),
+        ("insert_block", Arg::Block(block), Arg::Block(before)) => {
+            Some(Edit::InsertBlock(block, before))
+        }
+        ("insert_block_after", Arg::Block(block), Arg::Block(after)) => {
+            Some(Edit::InsertBlockAfter(block, after))
+        }
+        ("split_block", Arg::Block(block), Arg::Inst(before)) => {
+            Some(Edit::SplitBlock(block, before))
+        }
+        ("append_inst", Arg::Inst(inst), Arg::Block(block)) => Some(Edit::AppendInst(inst, block)),
+        ("insert_inst", Arg::Inst(inst), Arg::Inst(before)) => Some(Edit::InsertInst(inst, before)),
         _ => None,
     }
 }
@@ -125,17 +132,26 @@ fn cursor_bare(name: &str) -> Option<CursorCommand>
         "prev_inst" => CursorCall::Step(Step::PrevInst),
         "next_block" => CursorCall::Step(Step::NextBlock),
         "prev_block" => CursorCall::Step(Step::PrevBlock),
-        "next_inst_position" => CursorCall::Position(PositionQuestion::NextInst),
-        "prev_inst_position" => CursorCall::Position(PositionQuestion::PrevInst),
-        "next_block_position" => CursorCall::Position(PositionQuestion::NextBlock),
-        "prev_block_position" => CursorCall::Position(PositionQuestion::PrevBlock),
-        "next_position" => CursorCall::Position(PositionQuestion::Next),
-        "prev_position" => CursorCall::Position(PositionQuestion::Prev),
         "remove_inst" => CursorCall::Edit(CursorEdit::RemoveInst),
         "remove_inst_and_step_back" => CursorCall::Edit(CursorEdit::RemoveInstAndStepBack),
-        _ => return None,
+        _ => CursorCall::Position(position_question(name)?),
     };
     Some(CursorCommand::Call(call))
+}
+
+// The question with this name where a step would lead.
+fn position_question(name: &str) -> Option<PositionQuestion>
+    ensures { (q : Asked) → result ≡ Some q ↔ position_question_form q ≡ bare name.now }
+{
+    match name {
+        "next_inst_position" => Some(PositionQuestion::NextInst),
+        "prev_inst_position" => Some(PositionQuestion::PrevInst),
+        "next_block_position" => Some(PositionQuestion::NextBlock),
+        "prev_block_position" => Some(PositionQuestion::PrevBlock),
+        "next_position" => Some(PositionQuestion::Next),
+        "prev_position" => Some(PositionQuestion::Prev),
+        _ => None,
+    }
 }
 
 fn cursor_of_inst(name: &str, inst: Inst) -> Option<CursorCall>
