@@ -2,9 +2,10 @@
 
 #![tactic(auto)]
 
-ghost use Rattle.std.specs.Prelude.{◌≡◌, Some};
+ghost use Rattle.std.specs.Prelude.{◌≡◌, Some, codes};
+ghost use Rattle.std.specs.List.{flat_map};
 ghost use Rattle.words.specs.Entities.{block_text, inst_text};
-ghost use Rattle.printed.specs.Printed.{found_position_text, order_text, position_text, carried_text, call_fault_text, answer_text, reply_text, then_text, entry_text, block_line_text};
+ghost use Rattle.printed.specs.Printed.{found_position_text, order_text, position_text, carried_text, call_fault_text, answer_text, reply_text, then_text, entry_text, entity_or, slot_text, block_line_text};
 
 use calls::{Answer, CallFault, Outcome};
 use cursor::CursorPosition;
@@ -111,13 +112,25 @@ impl fmt::Display for Printed<CallFault> {
     fn fmt<W: fmt::Write>(&self, f: &mut fmt::Formatter<W>) -> fmt::Result {
         let fault = self.0;
         let carried = carried(fault);
+        let entity = Refused(fault.entity());
         write!(
             f,
-            "refused {} by {}{carried}: ",
+            "refused {} by {}{carried}: {entity}",
             fault.number(),
             fault.layer()
-        )?;
-        match fault.entity() {
+        )
+    }
+}
+
+// The entity that is refused, if there is one.
+#[derive(Clone, Copy)]
+struct Refused(Option<Entity>);
+
+impl fmt::Display for Refused {
+    ghost output = { λ r. Some (entity_or (codes "-") r.0) };
+
+    fn fmt<W: fmt::Write>(&self, f: &mut fmt::Formatter<W>) -> fmt::Result {
+        match self.0 {
             Some(entity) => entity.fmt(f),
             None => f.write_str("-"),
         }
@@ -174,8 +187,19 @@ impl fmt::Display for Entry<'_> {
     ghost output = { λ e. Some (entry_text e) };
 
     fn fmt<W: fmt::Write>(&self, f: &mut fmt::Formatter<W>) -> fmt::Result {
-        write!(f, "{} -> {}", self.line, self.reply)?;
-        match self.position {
+        write!(f, "{} -> {}{}", self.line, self.reply, Then(self.position))
+    }
+}
+
+// Where the cursor that is called then is, if one is called.
+#[derive(Clone, Copy)]
+struct Then(Option<CursorPosition>);
+
+impl fmt::Display for Then {
+    ghost output = { λ t. Some (then_text t.0) };
+
+    fn fmt<W: fmt::Write>(&self, f: &mut fmt::Formatter<W>) -> fmt::Result {
+        match self.0 {
             Some(position) => write!(f, "; {}", Printed(position)),
             None => Ok(()),
         }
@@ -187,8 +211,24 @@ impl fmt::Display for BlockLine<'_> {
 
     fn fmt<W: fmt::Write>(&self, f: &mut fmt::Formatter<W>) -> fmt::Result {
         let mark = if self.cold { " cold" } else { "" };
-        write!(f, "{}{mark}:", Entity::Block(self.block))?;
-        for slot in self.slots {
+        write!(
+            f,
+            "{}{mark}:{}",
+            Entity::Block(self.block),
+            Slots(self.slots)
+        )
+    }
+}
+
+// The instructions of a block, each with its sequence number.
+#[derive(Clone, Copy)]
+struct Slots<'a>(&'a [(Inst, u32)]);
+
+impl fmt::Display for Slots<'_> {
+    ghost output = { λ s. Some (flat_map slot_text s.0.now) };
+
+    fn fmt<W: fmt::Write>(&self, f: &mut fmt::Formatter<W>) -> fmt::Result {
+        for slot in self.0 {
             write!(f, " {}/{}", Entity::Inst(slot.0), slot.1)?;
         }
         Ok(())
