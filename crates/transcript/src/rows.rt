@@ -5,7 +5,7 @@ ghost use Rattle.std.specs.Io.KnownBytes.{Appends};
 ghost use Rattle.entities.specs.Program.{blocks_of};
 ghost use Rattle.entities.specs.Reading.{slots_of};
 ghost use Rattle.layout.specs.Program.{program};
-ghost use Rattle.transcript.specs.Walks.{slot_at, slots_along, rows, walk_text, walk_back_text};
+ghost use Rattle.transcript.specs.Walks.{slot_at, slots_along, block_row, rows, walk_text, walk_back_text};
 
 use entities::{Block, Inst};
 use layout::Layout;
@@ -74,20 +74,25 @@ fn write_rows<W: Write>(
         return writeln!(out, "empty");
     }
     for block in blocks {
-        let block = *block;
-        let slots = slots(alloc, layout, block, way)?;
-        let cold = layout.is_cold(block);
-        writeln!(
-            out,
-            "{}",
-            BlockLine {
-                block,
-                cold,
-                slots: &slots
-            }
-        )?;
+        write_row(alloc, layout, *block, way, out)?;
     }
     Ok(())
+}
+
+// Writes the line of a block.
+fn write_row<W: Write>(
+    alloc: Global,
+    layout: &Layout,
+    block: Block,
+    way: Direction,
+    out: &mut W,
+) -> io::Result<()>
+    ensures { OnOk result (Appends (W.contents out.old) (W.contents out.new) (block_row way (program layout.now) block)) }
+{
+    let slots = slots(alloc, layout, block, way)?;
+    let cold = layout.is_cold(block);
+    let slots = &slots;
+    writeln!(out, "{}", BlockLine { block, cold, slots })
 }
 
 // The instructions of a block in the order of the walk, each with its number.
