@@ -1,5 +1,5 @@
 -- The calls and the cursors of commands, one command more; and the run of all their calls.
-use Rattle.std.proofs.Common.{◌≡◌, ℕ, ◌+◌, ◌<◌, Bool, true, false, cond, Some, None, Option, List, [], ◌∷◌, ◌++◌, map, length, take, get_or, refl, sym, ap, ◌∙◌, append-nil, arith, le-leb}
+use Rattle.std.proofs.Common.{◌≡◌, ℕ, ◌+◌, ◌<◌, Bool, true, false, cond, Some, None, Option, List, [], ◌∷◌, ◌++◌, map, length, take, get_or, refl, sym, ap, ◌∙◌, append-nil, append_assoc, arith, le-leb}
 use Rattle.std.specs.Bool.{then_some}
 use Rattle.std.specs.List.{filter_map, cons_option}
 use Rattle.std.proofs.lemmas.List.{take_more, map-append, length-map}
@@ -72,3 +72,14 @@ run_reaches commands o s calls f e r = go o r
           ∙ ap (λ ps. listed no_program (moves calls no_program ps)) f.cursors
           ∙ ap (λ cs. listed no_program (moves cs no_program (first_places (kinds_of commands)))) e;
     }
+
+-- one more of each, where what the one gives is what the other gives
+pub one_each : {X Y Z : Type 0} (f : X → Z) (h : Y → Z) (old now new : List X) (xs : List Y) (i : ℕ) (d : Y) (x : X) → i < length xs → map f now ≡ map f old ++ map h (take i xs) → new ≡ now ++ (x ∷ []) → f x ≡ h (get_or xs i d) → map f new ≡ map f old ++ map h (take (i + 1) xs)
+one_each f h old now new xs i d x lt so_far pushed same =
+    let next = h (get_or xs i d) in
+    ap (map f) pushed
+    ∙ map-append f now (x ∷ [])
+    ∙ ap (λ z. map f now ++ (z ∷ [])) same
+    ∙ ap (λ zs. zs ++ (next ∷ [])) so_far
+    ∙ append_assoc (map f old) (map h (take i xs)) (next ∷ [])
+    ∙ ap (λ zs. map f old ++ zs) (sym (ap (map h) (take_more xs i d lt) ∙ map-append h (take i xs) (get_or xs i d ∷ [])))

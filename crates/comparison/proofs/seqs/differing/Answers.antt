@@ -1,4 +1,6 @@
 use Rattle.std.proofs.Common.{◌≡◌, [], ◌∷◌, ◌++◌, if◌then◌else◌, is_ok, sym, subst, ap, ◌∙◌}
+use Rattle.std.proofs.lemmas.List.{take_all}
+use Rattle.std.specs.List.{filter_map}
 use Rattle.entities.specs.declared.Inst.{Inst}
 use Rattle.layout.specs.Program.{program}
 use Rattle.comparison.specs.Numbering.{difference}
@@ -17,3 +19,6 @@ loop-inst-preserved c =
       | in_default w ↦
           ap (λ v. v.items) w.differing-is ∙ c.loop-inst.invariant ∙ sym (none_more gives c.args.insts.now c.loop-inst.inst-index _ c.loop-inst-test.true (sym c.difference.ensures ∙ none_of _ w.in_default.not-Some))
     ]
+
+pub returns : goal.returns
+returns c = c.loop-inst.invariant ∙ ap (filter_map (λ (i : Inst). difference i (program c.args.first.now) (program c.args.second.now))) (take_all c.loop-inst.inst-index c.args.insts.now c.loop-inst-test.false)
