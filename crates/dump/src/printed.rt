@@ -54,9 +54,15 @@ impl fmt::Display for Part<BlockNode> {
 
     fn fmt<W: fmt::Write>(&self, f: &mut fmt::Formatter<W>) -> fmt::Result {
         let node = self.0;
-        write!(f, "{} {} ", Part(node.prev), Part(node.next))?;
-        write!(f, "{} {}", Part(node.first_inst), Part(node.last_inst))?;
-        f.write_str(if node.cold { " cold" } else { "" })
+        let mark = if node.cold { " cold" } else { "" };
+        write!(
+            f,
+            "{} {} {} {}{mark}",
+            Part(node.prev),
+            Part(node.next),
+            Part(node.first_inst),
+            Part(node.last_inst)
+        )
     }
 }
 
