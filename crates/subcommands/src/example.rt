@@ -62,7 +62,9 @@ walk
 ";
 
 // What stands above each of the two transcripts.
-const FIRST_HEADING: &str = "Two controllers of a pair are to hold one dispatch program. The first enters it in order, and a patch is squeezed in:\n";
+const FIRST_HEADING: &str =
+    "Two controllers of a pair are to hold one dispatch program. The first enters it in order, and a patch is squeezed in:\n";
+
 const SECOND_HEADING: &str =
     "\nThe second enters two blocks as one and cuts it, and joins one from two:\n";
 
