@@ -1,9 +1,9 @@
 -- Marks set one after another: what stays unmarked, and how many are left. Assumes nothing.
-use Rattle.std.proofs.Common.{◌≡◌, ℕ, zero, suc, ◌<◌, ◌≤◌, ◌≢◌, Bool, true, false, List, [], ◌∷◌, length, set, get_or, replicate, Some, sym, refl, ap, ◌∙◌, subst, le_of_suc-le-suc, not-suc-le-zero, arith, get_or-set_same, get_or-set_other, length-set}
+use Rattle.std.proofs.Common.{◌≡◌, ℕ, zero, suc, ◌<◌, ◌≤◌, ◌≢◌, Bool, true, false, List, [], ◌∷◌, ◌++◌, length, set, get_or, replicate, Some, sym, refl, ap, ◌∙◌, subst, le_of_suc-le-suc, not-suc-le-zero, arith, get_or-set_same, get_or-set_other, length-set}
 use Rattle.std.proofs.lemmas.Bool.{true≢false}
 use Rattle.std.proofs.lemmas.Option.{same_Some}
 use Rattle.chain.specs.Chain.{Misses, AllWithin}
-use Rattle.audit_walks.specs.Marks.{Unmarked, AllUnmarked, marked}
+use Rattle.audit_walks.specs.Marks.{Unmarked, AllUnmarked, marked, MoreMarked}
 
 -- how many places are not marked
 unfoldable pub left : List Bool → ℕ
@@ -74,3 +74,17 @@ module _ {K : Type 0} (place : K → ℕ) where
     misses_unmarked (k ∷ ks) m i d e =
         let other : place i ≢ place k = λ q. d.0 (ap Some (apart i k q)) in
         misses_unmarked ks (set m (place k) true) i d.1 (get_or-set_other m (place k) (place i) true false other ∙ e)
+
+marked_last : {K : Type 0} (place : K → ℕ) (ks : List K) (k : K) (m : List Bool) → set (marked place ks m) (place k) true ≡ marked place (ks ++ (k ∷ [])) m
+marked_last place [] k m = refl
+marked_last place (q ∷ qs) k m = marked_last place qs k (set m (place q) true)
+
+pub none_more : {K : Type 0} (place : K → ℕ) (m : List Bool) → MoreMarked place m m
+unfolding MoreMarked
+none_more place m = ([], refl)
+
+-- one key more, at place i
+pub one_more : {K : Type 0} (place : K → ℕ) (m m' : List Bool) {k : K} {i : ℕ} → MoreMarked place m m' → i ≡ place k → MoreMarked place m (set m' i true)
+unfolding MoreMarked
+one_more place m m' {k} {i} so_far is =
+    (so_far.0 ++ (k ∷ []), ap (λ j. set m' j true) is ∙ ap (λ n. set n (place k) true) so_far.1 ∙ marked_last place so_far.0 k m)

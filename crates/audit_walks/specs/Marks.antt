@@ -14,3 +14,7 @@ AllUnmarked place m (k ∷ ks) = Unmarked place m k × AllUnmarked place m ks
 abbrev pub marked : {K : Type 0} → (K → ℕ) → List K → List Bool → List Bool
 marked place [] m = m
 marked place (k ∷ ks) m = marked place ks (set m (place k) true)
+
+-- m' is m with some keys marked, and no mark taken away
+unfoldable pub MoreMarked : {K : Type 0} → (K → ℕ) → (m m' : List Bool) → Type 0
+MoreMarked {K} place m m' = (ks : List K) × (m' ≡ marked place ks m)

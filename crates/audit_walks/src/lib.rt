@@ -6,6 +6,7 @@ ghost use Rattle.std.specs.Prelude.{◌≡◌, ◌≤◌, ◌↔◌, true, false
 ghost use Rattle.std.specs.Iterator.{YieldsFirst, item_count};
 ghost use Rattle.chain.specs.Chain.{keys_from, walk};
 ghost use Rattle.chain.specs.Table.{read_at, Within};
+ghost use Rattle.audit_walks.specs.Marks.{MoreMarked};
 ghost use Rattle.audit_walks.specs.Met.{Met, NextsWithin, Unmet};
 
 use chain::{Ends, Key, LinkedNode};
@@ -50,8 +51,8 @@ impl<N: LinkedNode> Iterator for Keys<'_, N> {
     }
 }
 
-/// Are the nodes between `ends` a chain, of nodes that are not marked yet? Marks each that it meets; where they are no such chain, the marks
-/// say nothing from then on.
+/// Are the nodes between `ends` a chain, of nodes that are not marked yet? Marks each that it meets; where they are no such chain, those that
+/// it met before it found that.
 #[tactic(auto, using(crate::proofs::Going::walked))]
 pub fn walk<N: LinkedNode>(nodes: &[N], ends: Ends<N::Key>, met: &mut [bool]) -> bool
     requires nexts { NextsWithin N.Key.place N.links nodes.now }
@@ -59,6 +60,7 @@ pub fn walk<N: LinkedNode>(nodes: &[N], ends: Ends<N::Key>, met: &mut [bool]) ->
     requires room { length nodes.now ≤ length met.old }
     ensures met { result ≡ true → Met N.Key.place N.links nodes.now ends met.old met.new }
     ensures unmet { result ≡ false → Unmet N.Key.place N.links nodes.now ends met.old }
+    ensures marks { MoreMarked N.Key.place met.old met.new }
 {
     let mut ahead = None;
     let mut at = ends.first;
