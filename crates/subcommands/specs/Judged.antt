@@ -22,6 +22,10 @@ status_of (Ok Lawful) = 0
 status_of (Ok (Broken x)) = 2
 status_of (Err f) = 2
 
+-- the text is a dump
+abbrev pub IsDumped : (text : List ℕ) → Type 0
+IsDumped text = (tables : Tables) × IsDump (spoken (rows text)) tables
+
 -- the text is a dump of these tables, and what the audit says of them is written on a line, and told by the status
 pub record Judges (text : List ℕ) (old new : Option (List ℕ)) (status : ExitCode) : Type 0 where
   pub tables : Tables

@@ -7,9 +7,9 @@ use Rattle.subcommands.specs.declared.Subcommand.{Subcommand}
 use Rattle.subcommands.specs.declared.Subcommand.TheVariants as subcommand
 use Rattle.subcommands.specs.declared.TheConstants.{HELP}
 use Rattle.subcommands.specs.declared.example.TheConstants.{FIRST, SECOND}
-use Rattle.subcommands.specs.Compared.{AreScripts, TellsComparison}
+use Rattle.subcommands.specs.Compared.{AreScripts, IsScript, TellsComparison}
 use Rattle.subcommands.specs.Contrasts.{Shows}
-use Rattle.subcommands.specs.Judged.{Judges}
+use Rattle.subcommands.specs.Judged.{IsDumped, Judges}
 use Rattle.subcommands.specs.Runs.{PrintsAnswers, PrintsTables}
 
 -- what can be told is printed; the status is 0
@@ -26,7 +26,10 @@ Obeys (subcommand.Compare first second) old new status = TellsComparison first.n
 Obeys (subcommand.Audit text) old new status = Judges text.now old new status
 Obeys subcommand.Help old new status = PrintsHelp old new status
 
--- two scripts are to be compared, and one of the texts is no script
-abbrev pub NoScripts : Subcommand → Type 0
-NoScripts (subcommand.Compare first second) = ¬ AreScripts first.now second.now
-NoScripts other = ⊥
+-- a text that it is to read is no script, or no dump
+abbrev pub Unreadable : Subcommand → Type 0
+Unreadable (subcommand.Run text) = ¬ IsScript text.now
+Unreadable (subcommand.Tables text) = ¬ IsScript text.now
+Unreadable (subcommand.Compare first second) = ¬ AreScripts first.now second.now
+Unreadable (subcommand.Audit text) = ¬ IsDumped text.now
+Unreadable other = ⊥

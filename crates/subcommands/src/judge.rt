@@ -1,7 +1,7 @@
 //! Tables from another controller, judged.
 
-ghost use Rattle.std.specs.Prelude.{IfOk, Some};
-ghost use Rattle.subcommands.specs.Judged.{Judges, judgement_text};
+ghost use Rattle.std.specs.Prelude.{◌≡◌, IfOk, IsErr, Some};
+ghost use Rattle.subcommands.specs.Judged.{IsDumped, Judges, judgement_text};
 
 use anyhow::Result;
 use std::alloc::Global;
@@ -15,7 +15,8 @@ const NOT_LAWFUL: u8 = 2;
 
 /// Reads a dump whole, and prints what the audit says of its tables. The status tells whether they are lawful.
 pub(crate) fn judge<W: Write>(alloc: Global, text: &str, out: &mut W) -> Result<ExitCode>
-    ensures { IfOk result (Judges text.now (W.contents out.old) (W.contents out.new)) }
+    ensures judged { IfOk result (Judges text.now (W.contents out.old) (W.contents out.new)) }
+    ensures unread { ¬ IsDumped text.now → IsErr result × (out.new ≡ out.old) }
 {
     let dump = dump::read(alloc, text)?;
     let judgement = Judgement(audit::audit(&dump.blocks, &dump.insts, dump.ends));

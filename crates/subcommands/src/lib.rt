@@ -4,7 +4,7 @@
 
 ghost use Rattle.std.specs.Prelude.{◌≡◌, IfOk, IsErr};
 ghost use Rattle.subcommands.specs.declared.Subcommand.TheVariants as the_subcommand;
-ghost use Rattle.subcommands.specs.Obeyed.{Obeys, NoScripts};
+ghost use Rattle.subcommands.specs.Obeyed.{Obeys, Unreadable};
 
 use anyhow::Result;
 use std::alloc::Global;
@@ -49,7 +49,7 @@ impl Subcommand<'_> {
     /// Does it, prints what it tells, and answers the status with which the program is to end.
     pub fn obey<W: Write>(self, alloc: Global, out: &mut W) -> Result<ExitCode>
         ensures obeyed { IfOk result (Obeys self.entry (W.contents out.old) (W.contents out.new)) }
-        ensures unread { NoScripts self.entry → IsErr result × (out.new ≡ out.old) }
+        ensures unread { Unreadable self.entry → IsErr result × (out.new ≡ out.old) }
     {
         match self {
             Subcommand::Example => example::show(alloc, example::FIRST, example::SECOND, out),

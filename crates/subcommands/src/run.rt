@@ -1,6 +1,7 @@
 //! A script replayed, with what each of its lines answers, or with the tables to which it leads.
 
-ghost use Rattle.std.specs.Prelude.{◌≡◌, IfOk};
+ghost use Rattle.std.specs.Prelude.{◌≡◌, IfOk, IsErr};
+ghost use Rattle.subcommands.specs.Compared.{IsScript};
 ghost use Rattle.subcommands.specs.Runs.{PrintsAnswers, PrintsTables, PrintsTablesOf};
 
 use anyhow::{Context, Result};
@@ -12,7 +13,8 @@ use std::process::ExitCode;
 
 /// Reads a script whole, and then replays it and prints what each line answers.
 pub(crate) fn run<W: Write>(alloc: Global, text: &str, out: &mut W) -> Result<ExitCode>
-    ensures { IfOk result (PrintsAnswers text.now (W.contents out.old) (W.contents out.new)) }
+    ensures printed { IfOk result (PrintsAnswers text.now (W.contents out.old) (W.contents out.new)) }
+    ensures unread { ¬ IsScript text.now → IsErr result × (out.new ≡ out.old) }
 {
     let script = script::parse(alloc, text)?;
     transcript::play(alloc, &script, out)?;
@@ -21,7 +23,8 @@ pub(crate) fn run<W: Write>(alloc: Global, text: &str, out: &mut W) -> Result<Ex
 
 /// Reads a script whole, replays it, and prints the node tables of the layout to which it leads.
 pub(crate) fn tables<W: Write>(alloc: Global, text: &str, out: &mut W) -> Result<ExitCode>
-    ensures { IfOk result (PrintsTables text.now (W.contents out.old) (W.contents out.new)) }
+    ensures printed { IfOk result (PrintsTables text.now (W.contents out.old) (W.contents out.new)) }
+    ensures unread { ¬ IsScript text.now → IsErr result × (out.new ≡ out.old) }
 {
     let script = script::parse(alloc, text)?;
     let layout = comparison::reached(alloc, &script.commands)?;
