@@ -2,11 +2,13 @@
 
 #![tactic(auto)]
 
-ghost use Rattle.std.specs.Prelude.{IfOk};
+ghost use Rattle.std.specs.Prelude.{◌≡◌, IfOk, Ok};
+ghost use Rattle.std.specs.Fn.{FnReturnsAt};
 ghost use Rattle.words.specs.Words.{texts};
 ghost use Rattle.handset.specs.Told.{Told};
 
 use anyhow::{Context, Result, bail};
+use std::alloc::Global;
 use std::io::{BufWriter, Write};
 use std::process::ExitCode;
 use std::{env, fs, io};
@@ -19,21 +21,26 @@ fn main(rt: HostRuntime) -> Result<ExitCode> {
         .iter()
         .map(|arg| arg.as_str())
         .collect::<Vec<&str>>(alloc)?;
+    let read = |file: &str| match file {
+        "-" => io::read_to_string(alloc, rt.reader()).context(file),
+        _ => fs::read_to_string(&rt, file).context(file),
+    };
     let mut out = BufWriter::new(alloc, io::writer(&rt))?;
-    let status = obey(&rt, &words, &mut out)?;
+    let status = obey(alloc, &words, read, &mut out)?;
     out.flush()?;
     Ok(status)
 }
 
-// Does what the words tell, with the texts of the files that they name.
-fn obey<W: Write>(rt: &HostRuntime, words: &[&str], out: &mut W) -> Result<ExitCode>
-    ensures { IfOk result (Told (texts words.now) (W.contents out.old) (W.contents out.new)) }
+// Does what the words tell, with the texts that `read` gives of the files that they name.
+fn obey<F: Fn(&str) -> Result<String>, W: Write>(
+    alloc: Global,
+    words: &[&str],
+    read: F,
+    out: &mut W,
+) -> Result<ExitCode>
+    requires { F.IsAlwaysCallable read }
+    ensures { IfOk result (Told (λ file text. (got : _) × FnReturnsAt F.Fn read file (Ok got) × (got.bytes.items ≡ text)) (texts words.now) (W.contents out.old) (W.contents out.new)) }
 {
-    let alloc = rt.alloc();
-    let read = |file: &str| match file {
-        "-" => io::read_to_string(alloc, rt.reader()).context(file),
-        _ => fs::read_to_string(rt, file).context(file),
-    };
     match *words {
         [] => Subcommand::Example.obey(alloc, out),
         ["run", file] => {

@@ -28,8 +28,9 @@ Obeys subcommand.Help old new status = PrintsHelp old new status
 
 -- a text that it is to read is no script, or no dump
 abbrev pub Unreadable : Subcommand → Type 0
+Unreadable subcommand.Example = ⊥
 Unreadable (subcommand.Run text) = ¬ IsScript text.now
 Unreadable (subcommand.Tables text) = ¬ IsScript text.now
 Unreadable (subcommand.Compare first second) = ¬ AreScripts first.now second.now
 Unreadable (subcommand.Audit text) = ¬ IsDumped text.now
-Unreadable other = ⊥
+Unreadable subcommand.Help = ⊥

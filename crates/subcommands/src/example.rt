@@ -61,10 +61,11 @@ pp_cmp inst9 inst6
 walk
 ";
 
-// What stands above each of the two transcripts.
+// What stands above what the first script answers.
 const FIRST_HEADING: &str =
     "Two controllers of a pair are to hold one dispatch program. The first enters it in order, and a patch is squeezed in:\n";
 
+// What stands above what the second answers.
 const SECOND_HEADING: &str =
     "\nThe second enters two blocks as one and cuts it, and joins one from two:\n";
 
