@@ -2,7 +2,7 @@
 
 #![tactic(auto)]
 
-ghost use Rattle.std.specs.Prelude.{◌≡◌, Some};
+ghost use Rattle.std.specs.Prelude.{◌≡◌, ◌++◌, Some, codes};
 ghost use Rattle.faults.specs.Refusals.{refusal_of, entity_at};
 ghost use Rattle.faults.specs.Text.{layer_text, entity_text, reason_text, fault_text};
 
@@ -87,16 +87,16 @@ impl LayoutFault {
         }
     }
 
-    // What is wrong with it.
+    // What is wrong with it, behind a blank: one piece of text, which a writer takes whole or not at all.
     fn reason(self) -> &'static str
-        ensures { result.now ≡ reason_text self }
+        ensures { result.now ≡ codes " " ++ reason_text self }
     {
         match self {
-            LayoutFault::OutOfRange(_) => "is out of range",
-            LayoutFault::NotInserted(_) => "is not inserted",
-            LayoutFault::AlreadyInserted(_) => "is inserted already",
-            LayoutFault::NotEmpty(_) => "has instructions",
-            LayoutFault::DifferentBlocks(_) => "is in another block",
+            LayoutFault::OutOfRange(_) => " is out of range",
+            LayoutFault::NotInserted(_) => " is not inserted",
+            LayoutFault::AlreadyInserted(_) => " is inserted already",
+            LayoutFault::NotEmpty(_) => " has instructions",
+            LayoutFault::DifferentBlocks(_) => " is in another block",
         }
     }
 }
@@ -128,10 +128,12 @@ impl fmt::Display for LayoutFault {
     ghost output = { λ f. Some (fault_text f) };
 
     fn fmt<W: fmt::Write>(&self, f: &mut fmt::Formatter<W>) -> fmt::Result {
+        f.write_str("refused with ")?;
+        // under the options of `f`, as a width: they are the number's
+        self.number().fmt(f)?;
         write!(
             f,
-            "refused with {} by the {}: {} {}",
-            self.number(),
+            " by the {}: {}{}",
             self.layer(),
             self.entity(),
             self.reason()

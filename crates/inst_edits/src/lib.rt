@@ -87,6 +87,8 @@ fn link_before(tables: &mut Tables, inst: Inst, before: Inst, block: Block)
 }
 
 // Numbers `inst`, which was just linked into `block`. Returns how many numbers were stored.
+// Inlined, since it reads what linking has just written.
+#[inline(always)]
 fn number_linked(tables: &mut Tables, inst: Inst, block: Block) -> u32
     requires { SomeLinked tables.old inst block }
     ensures sound { Sound tables.new }

@@ -128,6 +128,6 @@ impl Layout {
         ensures { result ≡ shown_seq inst (program self.now) }
     {
         let node = reads::inst_node(&self.listing, inst);
-        node.block.map(|_| node.seq)
+        node.block.is_some().then_some(node.seq)
     }
 }

@@ -35,6 +35,9 @@ pub struct PastLimit(pub u32);
 /// Numbers `inst`, which was just put into the block whose first instruction is `first`: half way between its neighbours, or one
 /// stride behind the one ahead of it, if it is the last. Where its neighbours leave no number, it renumbers those behind it too. Where
 /// that goes too far, or above the ceiling, it renumbers the whole block. Returns how many numbers were stored.
+// Inlined: a caller has just written the links that are read here. Where more than one number is
+// stored, which is seldom, stands apart.
+#[inline(always)]
 pub fn assign_inst_seq(insts: &mut [InstNode], first: Option<Inst>, inst: Inst) -> u32
     requires { SomePlaced insts.old first inst }
     ensures { AssignedAt insts.old insts.new first inst result }
@@ -93,6 +96,7 @@ pub fn full_block_renumber(insts: &mut [InstNode], first: Option<Inst>) -> u32
 
 // `full_block_renumber` for a caller that has put an instruction in: where the number ahead of it is above the ceiling, and there is no
 // midpoint, this is how the block is to be numbered. A step of its own, since the caller's proof did not close without one.
+#[inline(never)]
 fn renumber_whole(insts: &mut [InstNode], first: Option<Inst>) -> u32
     requires { SomeRun insts.old first }
     ensures { AnewAbove insts.old insts.new first result }
@@ -102,6 +106,7 @@ fn renumber_whole(insts: &mut [InstNode], first: Option<Inst>) -> u32
 
 // Numbers `inst` where the numbers of its neighbours leave none: local renumbering, and if that passes its limit, the whole block.
 // Returns how many numbers were stored by both. A step of its own, since its proof is by hand.
+#[inline(never)]
 fn renumber_crowded(
     insts: &mut [InstNode],
     first: Option<Inst>,
@@ -186,13 +191,15 @@ fn renumber_from(insts: &mut [InstNode], first: Option<Inst>, mut seq: SequenceN
 // The reads and writes below work on the slice itself, as the operations of chains do, and ask that what they are given lies inside.
 
 // The number of the instruction ahead of `inst`, or 0, the number of the block itself.
-#[tactic(auto, using(crate::proofs::Renumbering::reads_prev))]
+#[tactic(auto, using(crate::proofs::Renumbering::reads_prev, crate::proofs::Renumbering::reads_seq))]
 fn seq_ahead(insts: &[InstNode], inst: Inst) -> SequenceNumber
     requires here { inst.0 < length insts.now }
     requires prev { Within inst_place (length insts.now) (read_at inst_links.prev_of insts.now inst.0) }
     ensures { result ≡ seq_ahead_of insts.now inst }
 {
-    seq_at(insts, insts[inst.index()].prev).unwrap_or(0)
+    insts[inst.index()]
+        .prev
+        .map_or(0, |prev| insts[prev.index()].seq)
 }
 
 // The number of the instruction behind `inst`, if one stands there.
