@@ -47,7 +47,8 @@ pub fn remove_block_and_insts(listing: &mut Listing, block: Block)
 }
 
 // Links `before` and all that follow it as the chain of `new_block`, and leaves `block` what is ahead of them; they still name `block`, so
-// the tables are no listing before `name_all`.
+// the tables are no listing before `name_all`. A step of its own, since with all writes in one body the
+// caller's proof did not close.
 #[tactic(auto, using(listing::proofs::Splits::cut_written))]
 fn cut_off(tables: &mut Tables, block: Block, before: Inst, new_block: Block)
     requires block { block.0 < length tables.old.blocks }

@@ -24,7 +24,7 @@ use Rattle.listing.proofs.Props.{sound_out}
 use Rattle.listing.proofs.Questions.{of_block_at}
 use Rattle.listing.proofs.Rises.{becomes, remove_inst_rises}
 use Rattle.listing.proofs.Standing.{StandsIn, its_line_instead, its_slots, slots_ahead, slots_from, slots_without, stands_in}
-use Rattle.listing.specs.Edits.{Becomes, BlockIn, Edited, Linked, after_insts, unnumbered, with_block, with_inst_ends}
+use Rattle.listing.specs.Edits.{Becomes, BlockIn, Edited, Linked, after_insts, linked_last, unnumbered, with_block, with_inst_ends}
 use Rattle.listing.specs.Lawful.{Represents, Sound, Wired, listed, or_zero, program_of}
 
 -- a block's last instruction is in the table
@@ -158,6 +158,11 @@ module _ (t : Tables) (b : Block) (i : Inst) (old e : Ends Inst) (p n : Option I
         program = ap (with_lines (program_of t)) (at_its_line a (λ ss. (numbered ss i []).slots));
       }
 
+  pub last_linked : p ≡ old.last → n ≡ None → inserted_block b (program_of t) ≡ true → Edited t linked (linked_last i b t)
+  last_linked ep en stands =
+      let a : At t b = block_at t b (sound_out h).wired (block_stands t b stands) in
+      subst (λ q. Edited t linked q) (sym (at_its_line a (λ ss. ss ++ (unnumbered t i ∷ [])))) (behind_last a ep en)
+
   -- ahead of `before`
   pub put_before : (before : Inst) → p ≡ read_at inst_links.prev_of t.insts before.0 → n ≡ Some before → inst_block before (program_of t) ≡ Some b → Linked linked i b (numbered_before i before (slots_with before (program_of t))).writes (inserted_before i before (program_of t))
   put_before before ep en stands =
@@ -179,3 +184,8 @@ module _ (t : Tables) (b : Block) (i : Inst) (old e : Ends Inst) (p n : Option I
         count = ap (λ ss. (numbered_before i before ss).writes) (its_slots t before a) ∙ ap (λ (q : Numbered). q.writes) cut_there;
         program = ap (with_lines (program_of t)) (its_line_instead t before a (λ l. with_slots l (numbered_before i before l.slots).slots ∷ []) ∙ ap (λ (q : Numbered). a.ahead ++ (with_slots a.it q.slots ∷ a.behind)) cut_there);
       }
+
+-- ---- i linked in at the end of b
+
+pub inst_linked : (t : Tables) (b : Block) (i : Inst) (old e : Ends Inst) (is js : List InstNode) (bs : List BlockNode) → Sound t → i.0 < 1024 → inserted_block b (program_of t) ≡ true → inserted_inst i (program_of t) ≡ false → old ≡ ends_of t.blocks b → is ≡ inserted_table inst_place inst_links t.insts old.last None i → Inserts inst_place inst_links t.insts old i old.last None is e → bs ≡ alter t.blocks b.0 (λ n. with_inst_ends n e) → js ≡ alter is i.0 (λ n. with_block n (Some b)) → Edited t (record { blocks = bs; insts = js; ends = t.ends }) (linked_last i b t)
+inst_linked t b i old e is js bs h low stands fresh eo table chains wrote named = last_linked t b i old e old.last None is js bs h low fresh eo table chains wrote named refl refl stands

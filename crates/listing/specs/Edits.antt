@@ -5,7 +5,7 @@ use Rattle.chain.specs.Table.{alter, cut_table, if_none}
 use Rattle.chain.specs.declared.Ends.{Ends}
 use Rattle.entities.specs.Nodes.{inst_links, inst_place, marks}
 use Rattle.entities.specs.Numbering.{numbered}
-use Rattle.entities.specs.Program.{Line, Program, Slot, blocks_of, insts_of, with_lines, with_slots}
+use Rattle.entities.specs.Program.{Line, Program, Slot, blocks_of, in_block, insts_of, with_lines, with_slots}
 use Rattle.entities.specs.declared.Block.{Block}
 use Rattle.entities.specs.declared.Inst.{Inst}
 use Rattle.entities.specs.declared.nodes.BlockNode.{BlockNode}
@@ -61,6 +61,10 @@ after_insts t b is e = with_blocks (with_insts t is) (alter t.blocks b.0 (λ n. 
 -- the slot of an instruction that is linked in and not numbered yet: it has the number that its node holds
 abbrev pub unnumbered : Tables → Inst → Slot
 unnumbered t i = slot_of t.insts i
+
+-- the lines once i is linked in at the end of b
+abbrev pub linked_last : Inst → Block → Tables → List Line
+linked_last i b t = in_block b (λ ss. ss ++ (unnumbered t i ∷ [])) (listed t)
 
 -- i was linked into block b of the sound tables `before`, behind the slots sa of its line and ahead of sb, which made the tables u. Once it
 -- is numbered there, `writes` numbers are stored and the program is p
