@@ -23,6 +23,8 @@ use listing::Listing;
 // it is a clause.
 
 /// Puts `inst` at the end of `block` and numbers it. Returns how many numbers were stored.
+// Inlined, with the call of `Layout` that it serves: a program is entered by appending.
+#[inline(always)]
 pub fn append_inst(listing: &mut Listing, inst: Inst, block: Block) -> u32
     requires free { InstFree inst (program listing.old) }
     requires inserted { inserted_block block (program listing.old) ≡ true }

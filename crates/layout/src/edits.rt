@@ -110,6 +110,7 @@ impl Layout {
     }
 
     /// Puts `inst` in as the last instruction of `block`, and numbers it.
+    #[inline(always)]
     #[tactic(auto, using(crate::proofs::Laws::append_inst_laws))]
     pub fn append_inst(&mut self, inst: Inst, block: Block) -> Result<u32, LayoutFault>
         ensures rule { Follows (append_inst_rule inst block (program self.old)) result (program self.new) }
